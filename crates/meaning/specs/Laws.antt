@@ -1,0 +1,13 @@
+pub mod Tests
+pub mod Cells
+pub mod Runs
+pub mod Tree
+pub mod Fuse
+pub mod Jobs
+pub mod Blocks
+pub mod Early
+pub mod Value
+pub mod Requests
+pub mod Levels
+pub mod Again
+pub mod Unfused

@@ -1,0 +1,16 @@
+pub mod Refusals
+pub mod Trees
+pub mod Steps
+pub mod Values
+pub mod Running
+pub mod Fusing
+pub mod Emission
+pub mod Order
+pub mod Generation
+pub mod Building
+pub mod Demand3
+pub mod Laws
+pub mod Models
+pub mod Proved
+pub mod Examples
+pub mod Shortcuts

@@ -1,0 +1,19 @@
+//! The judge: asks the original for answers to scripts, and keeps them as vectors.
+//!
+//! `kinds`, `hex`, `literal`, `pool` and `script` read what is asked; `run` asks the original and
+//! `answer` writes what it says; `case`, `surprises`, `exhaustive` and `random` think up scripts;
+//! `vectors` and `stored` keep them with their answers.
+
+pub mod answer;
+pub mod case;
+pub mod exhaustive;
+pub mod hex;
+pub mod kinds;
+pub mod literal;
+pub mod pool;
+pub mod random;
+pub mod run;
+pub mod script;
+pub mod stored;
+pub mod surprises;
+pub mod vectors;

@@ -1,0 +1,115 @@
+//! The judge's command line.
+
+use judge::answer::Answer;
+use judge::random;
+use judge::run::run;
+use judge::script::{numbered, Script};
+use judge::stored;
+use judge::vectors::{self, Vector};
+use std::env;
+use std::fs;
+use std::io::{self, Read, Write};
+use std::process::ExitCode;
+
+const HELP: &str = "\
+judge - asks the original Rust for generation, and keeps its answers
+
+  judge run [FILE]                    answers the script in FILE, or on standard input
+  judge check FILE                    asks again for every vector of FILE and compares
+  judge write                         prints the vectors that vectors/generation.txt stores
+  judge random SEED COUNT [NODES]     prints COUNT random vectors, of NODES nodes if that is said
+  judge --help                        prints this
+
+A script is a pool in the frames of document 01, one a line in lower-case hexadecimal, and then
+commands:
+
+  request E P M                       expression, prime (0 or 1), muladd (0 or 1)
+  request E P M KIND ID               the same, asking for a result: kind in hex, id in decimal
+  03...                               a request frame, the same as request E P M
+  build
+
+Lines that begin with # and empty lines are passed over. A run ends at the first refusal. How
+answers and vectors are written stands at the head of vectors/generation.txt.
+
+Exit status: 0; 1 if vectors differ; 2 if something could not be read or answered.
+";
+
+const DIFFERENT: u8 = 1;
+const FAILED: u8 = 2;
+
+fn main() -> ExitCode {
+    let words: Vec<String> = env::args().skip(1).collect();
+    let words: Vec<&str> = words.iter().map(String::as_str).collect();
+    let done = match words[..] {
+        ["run"] | ["run", "-"] => standard_input().and_then(|text| answer("standard input", &text)),
+        ["run", file] => contents(file).and_then(|text| answer(file, &text)),
+        ["check", file] => contents(file).and_then(|text| check(file, &text)),
+        ["write"] => stored::text().and_then(|text| print(&text)),
+        ["random", seed, count] => random_vectors(seed, count, None),
+        ["random", seed, count, nodes] => random_vectors(seed, count, Some(nodes)),
+        ["--help"] | ["-h"] | ["help"] => print(HELP),
+        _ => Err(format!("this is how it is asked:\n\n{}", HELP)),
+    };
+    done.unwrap_or_else(|text| {
+        eprintln!("judge: {}", text);
+        ExitCode::from(FAILED)
+    })
+}
+
+fn contents(file: &str) -> Result<String, String> {
+    fs::read_to_string(file).map_err(|error| format!("cannot read {}: {}", file, error))
+}
+
+fn standard_input() -> Result<String, String> {
+    let mut text = String::new();
+    match io::stdin().read_to_string(&mut text) {
+        Ok(_) => Ok(text),
+        Err(error) => Err(format!("cannot read standard input: {}", error)),
+    }
+}
+
+fn print(text: &str) -> Result<ExitCode, String> {
+    match io::stdout().write_all(text.as_bytes()) {
+        Ok(()) => Ok(ExitCode::SUCCESS),
+        Err(error) => Err(format!("cannot write: {}", error)),
+    }
+}
+
+fn answer(source: &str, text: &str) -> Result<ExitCode, String> {
+    let script = Script::parse(numbered(text)).map_err(|fault| format!("{}, {}", source, fault))?;
+    print(&run(&script)?.iter().map(Answer::to_string).collect::<String>())
+}
+
+fn check(file: &str, text: &str) -> Result<ExitCode, String> {
+    let vectors = vectors::parse(text).map_err(|fault| format!("{}, {}", file, fault))?;
+    if vectors.is_empty() {
+        return Err(format!("{} has no vectors", file));
+    }
+    let mut equal = 0;
+    for vector in &vectors {
+        match vector.difference() {
+            Ok(None) => equal += 1,
+            Ok(Some(difference)) => eprintln!("{}: {}", vector.name, difference),
+            Err(text) => eprintln!("{}: {}", vector.name, text),
+        }
+    }
+    print(&format!("generation: {} vectors, {} equal\n", vectors.len(), equal))?;
+    Ok(if equal == vectors.len() { ExitCode::SUCCESS } else { ExitCode::from(DIFFERENT) })
+}
+
+fn random_vectors(seed: &str, count: &str, nodes: Option<&str>) -> Result<ExitCode, String> {
+    let seed = number(seed, "SEED")?;
+    let nodes = match nodes {
+        Some(word) => Some(number(word, "NODES")? as usize),
+        None => None,
+    };
+    for index in 0..number(count, "COUNT")? {
+        let vector = Vector::of(random::case(seed, index, nodes))?;
+        print(&format!("{}{}", if index == 0 { "" } else { "\n" }, vector))?;
+    }
+    Ok(ExitCode::SUCCESS)
+}
+
+fn number(word: &str, name: &str) -> Result<u64, String> {
+    word.parse().map_err(|_| format!("{} is a number, not {:?}", name, word))
+}

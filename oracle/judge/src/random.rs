@@ -1,0 +1,309 @@
+//! Random cases: admitted pools and command sequences, the same for the same seed everywhere.
+
+use crate::case::{asking, request, Case, BUILD};
+use crate::kinds::Kind;
+use crate::literal::Literal;
+use crate::pool::{self, Expression, Flags, Node, Pool, MAX_EXPRESSIONS, MAX_NODES};
+use crate::script::{Command, Script};
+
+/// SplitMix64.
+struct Random(u64);
+
+impl Random {
+    /// A stream of its own for each index, so that a case does not depend on how many come first.
+    fn new(seed: u64, index: u64) -> Random {
+        let mut of_seed = Random(seed);
+        Random(of_seed.next() ^ Random(index).next())
+    }
+
+    fn next(&mut self) -> u64 {
+        self.0 = self.0.wrapping_add(0x9e37_79b9_7f4a_7c15);
+        let z = (self.0 ^ (self.0 >> 30)).wrapping_mul(0xbf58_476d_1ce4_e5b9);
+        let z = (z ^ (z >> 27)).wrapping_mul(0x94d0_49bb_1331_11eb);
+        z ^ (z >> 31)
+    }
+
+    fn below(&mut self, limit: usize) -> usize {
+        (self.next() % limit as u64) as usize
+    }
+
+    fn between(&mut self, low: usize, high: usize) -> usize {
+        low + self.below(high - low + 1)
+    }
+
+    fn chance(&mut self, percent: usize) -> bool {
+        self.below(100) < percent
+    }
+
+    fn one_of(&mut self, many: usize) -> bool {
+        self.below(many) == 0
+    }
+
+    fn pick<T: Copy>(&mut self, from: &[T]) -> T {
+        from[self.below(from.len())]
+    }
+
+    fn take<T>(&mut self, from: &mut Vec<T>) -> T {
+        let index = self.below(from.len());
+        from.swap_remove(index)
+    }
+}
+
+/// Bounds of a pool and of the commands asked of it.
+#[derive(Clone, Copy)]
+struct Size {
+    nodes: (usize, usize),
+    expressions: (usize, usize),
+    commands: (usize, usize),
+    /// One leaf of so many has next: where many have, every primed request is refused.
+    next_every: usize,
+}
+
+const SMALL: Size = Size { nodes: (1, 12), expressions: (1, 5), commands: (1, 6), next_every: 8 };
+const LARGE: Size =
+    Size { nodes: (40, 100), expressions: (3, 12), commands: (3, 10), next_every: 60 };
+
+/// One case of so many is a large one.
+const LARGE_EVERY: u64 = 25;
+
+/// The case of this seed and index; of so many nodes, if that is said.
+pub fn case(seed: u64, index: u64, nodes: Option<usize>) -> Case {
+    let size = match nodes {
+        Some(nodes) => of_nodes(nodes),
+        None if index % LARGE_EVERY == LARGE_EVERY - 1 => LARGE,
+        None => SMALL,
+    };
+    let random = &mut Random::new(seed, index);
+    let pool = random_pool(random, size);
+    let commands = random_commands(random, size, pool.expressions().len());
+    let name = format!("random-{}-{:03}", seed, index);
+    Case { name, note: None, script: Script { pool, commands } }
+}
+
+fn of_nodes(nodes: usize) -> Size {
+    let nodes = nodes.clamp(1, MAX_NODES);
+    let most = (nodes / 8).clamp(1, MAX_EXPRESSIONS);
+    Size {
+        nodes: (nodes, nodes),
+        expressions: (1, most),
+        commands: (1, 2 * most + 6),
+        next_every: nodes.max(SMALL.next_every),
+    }
+}
+
+fn random_pool(random: &mut Random, size: Size) -> Pool {
+    let (low, high) = size.nodes;
+    // The larger of two draws: small pools have little to show.
+    let wanted = random.between(low, high).max(random.between(low, high));
+    let (low, high) = size.expressions;
+    let roots = random.between(low, high.min(wanted / 3).max(low));
+    let (mut nodes, open) = random_nodes(random, wanted, roots, size.next_every);
+    let expressions = random_expressions(random, open, roots);
+    link(random, &mut nodes, &expressions);
+    let mut pool = Pool::default();
+    for node in nodes {
+        pool.push_node(node).expect("an admitted node");
+    }
+    for expression in expressions {
+        pool.push_expression(expression).expect("an admitted expression");
+    }
+    pool.check_links().expect("an admitted pool");
+    pool
+}
+
+/// Nodes in order, and those of them that no other uses. exp leaves do not know their expression.
+fn random_nodes(
+    random: &mut Random,
+    wanted: usize,
+    roots: usize,
+    next_every: usize,
+) -> (Vec<Node>, Vec<u16>) {
+    let mut nodes = Vec::new();
+    let mut open = Vec::new();
+    while nodes.len() < wanted {
+        // Towards the end operations close what is open beyond the roots.
+        let pressing = open.len() > roots && open.len() - roots >= wanted - nodes.len();
+        let percent = [0, 15, 50][open.len().min(2)];
+        let kind = if pressing || random.chance(percent) {
+            random_operation(random, open.len())
+        } else {
+            random_leaf(random)
+        };
+        let children = random_children(random, kind, &nodes, &mut open);
+        open.push(nodes.len() as u16);
+        // next on an operation is admitted and means nothing.
+        let next = random.one_of(if kind.is_operation() { 20 } else { next_every });
+        nodes.push(Node { next, ..random_node(random, kind, children) });
+    }
+    (nodes, open)
+}
+
+/// Takes the children of a new node. For the sake of fusing, sums prefer a product.
+fn random_children(
+    random: &mut Random,
+    kind: Kind,
+    nodes: &[Node],
+    open: &mut Vec<u16>,
+) -> Vec<u16> {
+    let is_product = |&child: &u16| nodes[usize::from(child)].kind == Kind::MUL;
+    match open.iter().position(is_product) {
+        Some(index) if kind == Kind::ADD && random.chance(60) => {
+            let product = open.swap_remove(index);
+            let other = random.take(open);
+            if random.chance(50) {
+                vec![product, other]
+            } else {
+                vec![other, product]
+            }
+        }
+        _ => (0..kind.child_count()).map(|_| random.take(open)).collect(),
+    }
+}
+
+fn random_node(random: &mut Random, kind: Kind, children: Vec<u16>) -> Node {
+    let id = if kind.has_id() { random_id(random) } else { 0 };
+    let literal = match kind {
+        Kind::NUMBER => Some(random_literal(random)),
+        Kind::ADDC | Kind::MULC => Some(random_i64(random).into()),
+        _ => None,
+    };
+    Node { kind, next: false, id, children, literal }
+}
+
+/// Sums and products come more often than the rest.
+fn random_operation(random: &mut Random, open: usize) -> Kind {
+    let unary = [Kind::ADDC, Kind::MULC, Kind::NEG];
+    let binary = [Kind::ADD, Kind::MUL, Kind::ADD, Kind::MUL, Kind::SUB];
+    match open {
+        1 => random.pick(&unary),
+        _ if random.chance(20) => random.pick(&unary),
+        3.. if random.chance(10) => Kind::MULADD,
+        _ => random.pick(&binary),
+    }
+}
+
+fn random_leaf(random: &mut Random) -> Kind {
+    let frequent = [Kind::CM, Kind::CONST, Kind::EXP, Kind::EXP];
+    if random.chance(60) {
+        random.pick(&frequent)
+    } else {
+        random.pick(&Kind::LEAVES)
+    }
+}
+
+fn random_id(random: &mut Random) -> u16 {
+    random.pick(&[0, 0, 1, 1, 2, 3, 256, u16::MAX])
+}
+
+fn random_literal(random: &mut Random) -> Literal {
+    let edges = [0, 1, 2, i64::MAX as u64, 1 << 63, u64::MAX];
+    let magnitude = if random.chance(70) { random.pick(&edges) } else { random.next() };
+    let minus = magnitude != 0 && random.chance(50);
+    Literal::new(minus, magnitude).expect("not minus zero")
+}
+
+fn random_i64(random: &mut Random) -> i64 {
+    let edges = [0, 1, -1, 2, i64::MAX, i64::MIN];
+    if random.chance(70) {
+        random.pick(&edges)
+    } else {
+        random.next() as i64
+    }
+}
+
+/// Some of the open nodes as roots; the others are left unused.
+fn random_expressions(random: &mut Random, mut open: Vec<u16>, roots: usize) -> Vec<Expression> {
+    (0..roots.min(open.len()))
+        .map(|_| Expression { root: random.take(&mut open), flags: random_flags(random) })
+        .collect()
+}
+
+fn random_flags(random: &mut Random) -> Flags {
+    if random.chance(45) {
+        return Flags::NONE;
+    }
+    Flags::from_byte(random.below(8) as u8).expect("flags")
+}
+
+/// Lets exp leaves name expressions, without a cycle: a shuffled order of the expressions is
+/// chosen, and each leaf reads one that comes before its own. Where none does it becomes a cm.
+fn link(random: &mut Random, nodes: &mut [Node], expressions: &[Expression]) {
+    let owners = pool::owners(nodes, expressions);
+    let mut numbers: Vec<u16> = (0..expressions.len() as u16).collect();
+    let order: Vec<u16> = (0..numbers.len()).map(|_| random.take(&mut numbers)).collect();
+    for (node, owner) in nodes.iter_mut().zip(owners).filter(|(node, _)| node.kind == Kind::EXP) {
+        // An unused node may name any.
+        let is_owner = |&number: &u16| owner == Some(usize::from(number));
+        let readable = &order[..order.iter().position(is_owner).unwrap_or(order.len())];
+        if readable.is_empty() {
+            node.kind = Kind::CM;
+        } else {
+            node.id = random.pick(readable);
+        }
+    }
+}
+
+fn random_commands(random: &mut Random, size: Size, expressions: usize) -> Vec<Command> {
+    let (low, high) = size.commands;
+    let count = random.between(low, high);
+    let mut commands = Vec::new();
+    while commands.len() < count {
+        if random.chance(15) {
+            commands.push(BUILD);
+            continue;
+        }
+        let expression = random_expression(random, expressions);
+        let prime = random.chance(30);
+        let muladd = random.chance(60);
+        if random.chance(10) {
+            commands.push(random_asking(random, expression, prime));
+            continue;
+        }
+        commands.push(request(expression, prime, muladd));
+        // Lists differ where an expression stands both plain and primed.
+        if random.chance(35) {
+            commands.push(request(expression, !prime, muladd));
+        }
+    }
+    commands.push(BUILD);
+    commands
+}
+
+fn random_expression(random: &mut Random, expressions: usize) -> u16 {
+    if random.chance(1) {
+        return random.pick(&[expressions as u16, u16::MAX]);
+    }
+    random.below(expressions) as u16
+}
+
+fn random_asking(random: &mut Random, expression: u16, prime: bool) -> Command {
+    let kinds: Vec<Kind> = Kind::results().collect();
+    let kind = random.pick(&kinds);
+    let id = random_id(random);
+    asking(expression, prime, kind, id)
+}
+
+#[cfg(test)]
+mod tests {
+    use super::*;
+
+    #[test]
+    fn a_case_depends_on_its_seed_and_index_only() {
+        let text = |seed, index| case(seed, index, None).script.to_string();
+        assert_eq!(text(7, 3), text(7, 3));
+        assert_ne!(text(7, 3), text(7, 4));
+        assert_ne!(text(7, 3), text(8, 3));
+    }
+
+    #[test]
+    fn sizes_are_kept() {
+        for index in 0..200 {
+            let nodes = case(1, index, None).script.pool.nodes().len();
+            let large = index % LARGE_EVERY == LARGE_EVERY - 1;
+            let (low, high) = if large { LARGE.nodes } else { SMALL.nodes };
+            assert!((low..=high).contains(&nodes), "case {} has {} nodes", index, nodes);
+        }
+        assert_eq!(case(1, 0, Some(300)).script.pool.nodes().len(), 300);
+        assert_eq!(case(1, 0, Some(1 << 20)).script.pool.nodes().len(), MAX_NODES);
+    }
+}
