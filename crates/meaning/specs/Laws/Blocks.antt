@@ -16,7 +16,8 @@ use Rattle.meaning.specs.Order.{Marks, unmarked, marking, Job, asked, in
 use Rattle.meaning.specs.Generation.{Block, Made, blockOf, makeOne, make}
 use Rattle.meaning.specs.Building.{every}
 use Rattle.meaning.specs.Demand3.{Throughout, Fed, Held}
-use Rattle.meaning.specs.Laws.Tests.{true-false, ltb-lt, eqb-eq, and-left, and-right, each-both}
+use borrow.Author.Tests.{eqb-true, ltb-true}
+use Rattle.meaning.specs.Laws.Tests.{true-false, and-left, and-right, each-both}
 use Rattle.meaning.specs.Laws.Cells.{same-refl, same-eq, same-not, exp-under}
 use Rattle.meaning.specs.Laws.Runs.{Agree, run-then}
 use Rattle.meaning.specs.Laws.Tree.{Good, Ready, Valued, planned, block-runs}
@@ -63,7 +64,7 @@ module _ (𝓐 : Algebra) (G : Given (𝓐 .A)) (E : Forest) where
         (m : Marks) (xs : List Step) (v : Inv m xs) (r : ℕ) (p : Placed) → Fed rows G p → InRows rows r p → DepMarked rows m r p →
         Ready 𝓐 G E r (v .end) p
     leaf-ready m xs v r (Leaf.cell k i a at n) f w d =
-        let g = f r (ltb-lt _ _ w) in
+        let g = f r (ltb-true _ _ w) in
         (g .0, read-given (v .end) (Kind.row k) i (r + a) refl (v .bare _ (other-row k i (r + a))) ∙ g .1, Has.cell (g .1))
     leaf-ready m xs v r (Leaf.exp i a at n) f w d =
         let h = v .holds i (r + a) d in
@@ -105,8 +106,8 @@ module _ (𝓐 : Algebra) (G : Given (𝓐 .A)) (E : Forest) where
           (e′ r′ : ℕ) (b : Bool) → (eqb e e′ && eqb r r′) ≡ b → (b || m e′ r′) ≡ true →
           (w : 𝓐 .A) × (cond b (some (tree .value)) (tree .good .mid (expCell e′ r′)) ≡ some w) × Value 𝓐 G E e′ r′ w
       block-holds e′ r′ true q h =
-          let qe : e ≡ e′ = eqb-eq e e′ (and-left (eqb e e′) (eqb r r′) q) in
-          let qr : r ≡ r′ = eqb-eq r r′ (and-right (eqb e e′) (eqb r r′) q) in
+          let qe : e ≡ e′ = eqb-true e e′ (and-left (eqb e e′) (eqb r r′) q) in
+          let qr : r ≡ r′ = eqb-true r r′ (and-right (eqb e e′) (eqb r r′) q) in
           let k : Value 𝓐 G E e r (tree .value) = (fine .expression, fine .found, asked-value 𝓐 G E r (j .fused) (fine .expression .tree) (tree .has)) in
           (tree .value, refl, subst₂ (λ a b. Value 𝓐 G E a b (tree .value)) qe qr k)
       block-holds e′ r′ false q h =

@@ -10,7 +10,8 @@ use lib.Dec.{eqb}
 use Rattle.meaning.specs.Trees.{RowKind, FlatKind, XKind, Leaf}
 use Rattle.meaning.specs.Steps.{BareKind, Kind, kindNo, Cell, same, place, Ref, tmpRef, expCell}
 use Rattle.meaning.specs.Emission.{leafRef}
-use Rattle.meaning.specs.Laws.Tests.{eqb-same, eqb-eq, and-left, and-right, not-true}
+use borrow.Author.Tests.{eqb-true}
+use Rattle.meaning.specs.Laws.Tests.{eqb-same, and-left, and-right, not-true}
 
 -- the kind of a byte
 abbrev kindOf : ℕ → Kind
@@ -64,10 +65,10 @@ same-refl (Cell.cell k i r) = rw (eqb-same (kindNo k), eqb-same i, eqb-same r)
 
 pub same-eq : (c d : Cell) → same c d ≡ true → c ≡ d
 same-eq (Cell.cell k i r) (Cell.cell k′ i′ r′) h =
-    let hk : k ≡ k′ = kind-same k k′ (eqb-eq _ _ (and-left (eqb (kindNo k) (kindNo k′)) _ h)) in
+    let hk : k ≡ k′ = kind-same k k′ (eqb-true _ _ (and-left (eqb (kindNo k) (kindNo k′)) _ h)) in
     let t = and-right (eqb (kindNo k) (kindNo k′)) _ h in
-    let hi : i ≡ i′ = eqb-eq _ _ (and-left (eqb i i′) (eqb r r′) t) in
-    let hr : r ≡ r′ = eqb-eq _ _ (and-right (eqb i i′) (eqb r r′) t) in
+    let hi : i ≡ i′ = eqb-true _ _ (and-left (eqb i i′) (eqb r r′) t) in
+    let hr : r ≡ r′ = eqb-true _ _ (and-right (eqb i i′) (eqb r r′) t) in
     cc
 
 pub same-not : (c d : Cell) → (c ≡ d → ⊥) → same c d ≡ false

@@ -6,18 +6,11 @@ use mathlib.Core.Bool.{Bool, true, false, _&&_, _||_, cond}
 use mathlib.Core.Option.{Option, none, some, Option·none-ne-some}
 use mathlib.Core.List.{List, [], _∷_, _++_}
 use native.Mathlib.Omega.{arith}
-use lib.Dec.{T, eqb, eqb→eq, eqb-refl, ltb, ltb→lt}
+use lib.Dec.{T, eqb}
+use borrow.Author.Tests.{eq-eqb}
 use Rattle.meaning.specs.Refusals.{Refusal, Answer, done, refused, _then_}
 use Rattle.meaning.specs.Trees.{Each}
 use Rattle.meaning.specs.Values.{bind}
-
-pub T-of : (b : Bool) → b ≡ true → T b
-T-of true h = tt
-T-of false h = subst T (sym h) tt
-
-pub of-T : (b : Bool) → T b → b ≡ true
-of-T true h = refl
-of-T false h = absurd h
 
 pub true-false : {b : Bool} → b ≡ true → b ≡ false → ⊥
 true-false h k = subst T (sym h ∙ k) tt
@@ -27,13 +20,7 @@ not-true true h = absurd (h refl)
 not-true false h = refl
 
 pub eqb-same : (k : ℕ) → eqb k k ≡ true
-eqb-same k = of-T (eqb k k) (eqb-refl k)
-
-pub eqb-eq : (a b : ℕ) → eqb a b ≡ true → a ≡ b
-eqb-eq a b h = eqb→eq a b (T-of _ h)
-
-pub ltb-lt : (a b : ℕ) → ltb a b ≡ true → a < b
-ltb-lt a b h = ltb→lt a b (T-of _ h)
+eqb-same k = eq-eqb k k refl
 
 pub and-left : (a b : Bool) → (a && b) ≡ true → a ≡ true
 and-left true b h = refl
