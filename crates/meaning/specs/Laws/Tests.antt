@@ -8,7 +8,7 @@ use mathlib.Core.List.{List, [], _∷_, _++_}
 use native.Mathlib.Omega.{arith}
 use lib.Dec.{T, eqb}
 use borrow.Author.Tests.{eq-eqb}
-use Rattle.meaning.specs.Refusals.{Refusal, Answer, done, refused, _then_}
+use Rattle.meaning.specs.Refusals.{Refusal, number, Answer, done, refused, _then_}
 use Rattle.meaning.specs.Trees.{Each}
 use Rattle.meaning.specs.Values.{bind}
 
@@ -41,6 +41,29 @@ then-done (refused r n) f {b} h = absurd (let z : _≡_ {A = ℕ} 0 1 = cc in om
 
 pub done-same : {A : Type 0} (a b : A) → _≡_ {A = Answer A} (done a) (done b) → a ≡ b
 done-same a b h = cc
+
+pub done-not-refused : {A : Type 0} {a : A} {r : Refusal} {n : Option ℕ} → _≡_ {A = Answer A} (done a) (refused r n) → ⊥
+done-not-refused h = let z : _≡_ {A = ℕ} 0 1 = cc in omega arith
+
+-- no refusal's number is that of an answer that is done
+pub number-not-zero : (r : Refusal) → number r ≡ 0 → ⊥
+number-not-zero Refusal.malformed h = omega arith
+number-not-zero Refusal.childCount h = omega arith
+number-not-zero Refusal.notThere h = omega arith
+number-not-zero Refusal.cycle h = omega arith
+number-not-zero Refusal.doublePrime h = omega arith
+number-not-zero Refusal.searchKind h = omega arith
+number-not-zero Refusal.noPrimedMark h = omega arith
+number-not-zero Refusal.noBlock h = omega arith
+number-not-zero Refusal.full h = omega arith
+number-not-zero Refusal.noRule h = omega arith
+number-not-zero Refusal.counts h = omega arith
+number-not-zero Refusal.noDimension h = omega arith
+number-not-zero Refusal.noSet h = omega arith
+number-not-zero Refusal.noQuotient h = omega arith
+number-not-zero Refusal.visits h = omega arith
+number-not-zero Refusal.bits h = omega arith
+number-not-zero Refusal.noIdentity h = omega arith
 
 pub bind-some : {A B : Type 0} (o : Option A) (f : A → Option B) {b : B} → bind o f ≡ some b → (a : A) × (o ≡ some a) × (f a ≡ some b)
 bind-some none f {b} h = absurd (Option·none-ne-some b h)

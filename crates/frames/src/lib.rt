@@ -1,0 +1,10 @@
+// The frames of document 01: one frame read, frames counted and stored into tables of packed words, a slice of frames read whole, and
+// the hexadecimal line of a frame.
+pub mod count;
+pub mod frame;
+pub mod hex;
+pub mod node;
+pub mod read;
+pub mod rest;
+pub mod tables;
+pub mod take;

@@ -1,0 +1,11 @@
+pub mod Counts
+pub mod Leads
+pub mod Ranks
+pub mod Children
+pub mod Late
+pub mod Firsts
+pub mod Tally
+pub mod AllRanks
+pub mod Shapes
+pub mod Admits
+pub mod Numbers

@@ -1,0 +1,14 @@
+pub mod Words
+pub mod Pool
+pub mod Trees
+pub mod Shaped
+pub mod Admission
+pub mod Verdict
+pub mod Tabled
+pub mod Shapes
+pub mod Ranking
+pub mod Admitting
+pub mod Laws
+pub mod Exactly
+pub mod Numbered
+pub mod Bytes

@@ -1,0 +1,7 @@
+// Pools: admission, and ranks of expressions.
+pub mod admit;
+pub mod number;
+pub mod rank;
+pub mod shape;
+pub mod uses;
+pub mod words;
