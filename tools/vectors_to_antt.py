@@ -7,7 +7,7 @@ usage: tools/vectors_to_antt.py [--check]      (from the repository's top folder
 
 Each family of vectors becomes a module with a table and one statement, proved by computation: the definitions of the crate
 `meaning` give the original's answers.
-A frame's node becomes a tree's node here; the crate that reads frames proves that it does the same.
+This script turns the nodes of frames into trees.
 """
 import os
 import sys

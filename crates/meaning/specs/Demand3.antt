@@ -6,7 +6,7 @@ use mathlib.Core.Option.{Option, none, some}
 use mathlib.Core.List.{List, [], _∷_}
 use mathlib.Core.Logic.{_⊎_}
 use Rattle.meaning.specs.Refusals.{Answer, done}
-use Rattle.meaning.specs.Trees.{RowKind, FlatKind, Leaf, Expression, Forest, Acyclic, nth, Placed, _at_, leaves, Each}
+use Rattle.meaning.specs.Trees.{RowKind, FlatKind, Leaf, Expression, Forest, Acyclic, nth, Placed, _at_, leaves, Each, Member, upTo}
 use Rattle.meaning.specs.Steps.{Kind, Cell, place, Ref, StepOp, Step, expCell}
 use Rattle.meaning.specs.Values.{Algebra, Given, Value, value}
 use Rattle.meaning.specs.Running.{Store, empty, run}
@@ -29,7 +29,8 @@ Throughout P E = (e : ℕ) (x : Expression) → nth E e ≡ some x → Each P (l
 
 -- each cm and const has a value at each row, and each public, challenge and eval has one
 pub record AllGiven {A : Type 0} (rows : ℕ) (G : Given A) : Type 0 where
-  pub cells : (k : RowKind) (i r : ℕ) → r < rows → (v : A) × (G .cells k i r ≡ some v)
+  pub cms : (i r : ℕ) → r < rows → (v : A) × (G .cells RowKind.cm i r ≡ some v)
+  pub consts : (i r : ℕ) → r < rows → (v : A) × (G .cells RowKind.const i r ≡ some v)
   pub flats : (k : FlatKind) (i : ℕ) → (v : A) × (G .flats k i ≡ some v)
 
 abbrev pub NoResult : Request → Type 0
@@ -47,13 +48,9 @@ Ungiven (Cell.cell Kind.f i r) = Unit {0}
 Ungiven (Cell.cell Kind.tmpExp i r) = Unit {0}
 Ungiven (Cell.cell (Kind.bare k) i r) = Unit {0}
 
-abbrev pub In : Cell → List Cell → Type 0
-In c [] = ⊥
-In c (d ∷ ds) = (d ≡ c) ⊎ In c ds
-
 -- a source is given a value, or is among the cells written
 abbrev pub Written : List Cell → Ref → Type 0
-Written ds (Ref.var c) = Ungiven c → In (place c) ds
+Written ds (Ref.var c) = Ungiven c → Member (place c) ds
 Written ds (Ref.number l n) = Unit {0}
 
 -- how many sources a step needs, and which
@@ -63,11 +60,6 @@ needs StepOp.sub = 2
 needs StepOp.mul = 2
 needs StepOp.muladd = 3
 needs StepOp.copy = 1
-
-abbrev pub upTo : {A : Type 0} → ℕ → List A → List A
-upTo zero l = []
-upTo (suc n) [] = []
-upTo (suc n) (a ∷ l) = a ∷ upTo n l
 
 abbrev pub writing : Ref → List Cell → List Cell
 writing (Ref.var c) ds = place c ∷ ds

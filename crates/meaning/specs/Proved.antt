@@ -35,8 +35,8 @@ demand3-fed 𝓐 rows G E acyclic fed qs plain st h =
 
 -- without x-kind and q leaves, what is given feeds every leaf
 plain-fed : {A : Type 0} (rows : ℕ) (G : Given A) → AllGiven rows G → (p : Placed) → PlainLeaf p → Fed rows G p
-plain-fed rows G g (Leaf.cell RowKind.cm i a at n) h = λ r l. g .cells RowKind.cm i (r + a) l
-plain-fed rows G g (Leaf.cell RowKind.const i a at n) h = λ r l. g .cells RowKind.const i (r + a) l
+plain-fed rows G g (Leaf.cell RowKind.cm i a at n) h = λ r l. g .cms i (r + a) l
+plain-fed rows G g (Leaf.cell RowKind.const i a at n) h = λ r l. g .consts i (r + a) l
 plain-fed rows G g (Leaf.cell RowKind.q i a at n) h = absurd h
 plain-fed rows G g (Leaf.exp i a at n) h = tt
 plain-fed rows G g (Leaf.number l at n) h = tt

@@ -7,6 +7,7 @@ use lib.ListN.{length}
 use mathlib.Core.Bool.{Bool}
 use mathlib.Core.Option.{Option, none, some}
 use mathlib.Core.List.{List, [], _∷_, _++_}
+use mathlib.Core.Logic.{_⊎_}
 
 -- is it negative, and its magnitude
 pub data Lit : Type 0 where
@@ -77,6 +78,16 @@ leaves (neg n a) = leaves a
 abbrev pub Each : {A : Type 0} → (A → Type 0) → List A → Type 0
 Each P [] = Unit {0}
 Each P (a ∷ l) = P a × Each P l
+
+abbrev pub Member : {A : Type 0} → A → List A → Type 0
+Member a [] = ⊥
+Member a (b ∷ l) = (b ≡ a) ⊎ Member a l
+
+-- the first n, or all
+abbrev pub upTo : {A : Type 0} → ℕ → List A → List A
+upTo zero l = []
+upTo (suc n) [] = []
+upTo (suc n) (a ∷ l) = a ∷ upTo n l
 
 -- each expression that a leaf asks for is there, and has a lower rank
 abbrev pub Falls : Forest → (ℕ → ℕ) → ℕ → Placed → Type 0

@@ -8,14 +8,13 @@ use mathlib.Core.Logic.{_⊎_, inl, inr, ⊎-elim, _↔_}
 use native.Mathlib.Omega.{arith}
 use native.Mathlib.Nat.{not-suc-le-zero, le-of-suc-le-suc}
 use lib.ListN.{length, getD}
-use Rattle.meaning.specs.Trees.{nth, Each}
+use Rattle.meaning.specs.Trees.{nth, Each, Member}
 use Rattle.frames.specs.declared.node.Node.{Node}
 use Rattle.frames.specs.Tables.{kindIn, idIn, countIn, nodeIn}
 use Rattle.pool.specs.Words.{c0In, c1In, c2In}
 use Rattle.kinds.specs.KindBytes as kind
 use Rattle.kinds.specs.Kinds.{childCount}
 use Rattle.pool.specs.Pool.{Pool, node, children}
-use Rattle.pool.specs.Admission.{Member}
 use Rattle.pool.specs.Tabled.{Tables, tabled}
 use Rattle.pool.specs.Ranking.{zeros, Later, Leads, State, Follows, AsksVisit, AsksWalk, Ranks, Gives, cycleFound}
 use Rattle.pool.specs.Laws.Members.{member-each}

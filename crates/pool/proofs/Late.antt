@@ -6,7 +6,7 @@ use mathlib.Core.Bool.{Bool, true, false, _||_, or-false}
 use mathlib.Core.List.{List, [], _∷_}
 use lib.Dec.{leb}
 use borrow.Author.Tests.{le-leb, lt-leb}
-use Rattle.meaning.specs.Demand3.{upTo}
+use Rattle.meaning.specs.Trees.{upTo}
 use Rattle.frames.specs.Tables.{countIn}
 use Rattle.pool.specs.Words.{c0In, c1In, c2In}
 use Rattle.pool.specs.Admission.{someFrom}

@@ -11,8 +11,7 @@ use native.Mathlib.Nat.{not-suc-le-zero, le-of-suc-le-suc}
 use lib.ListN.{length, getD}
 use lib.Dec.{eqb}
 use borrow.Author.Tests.{ne-eqb}
-use Rattle.meaning.specs.Trees.{RowKind, FlatKind, XKind, Leaf, Expr, nth, Placed, _at_, leaves, Each}
-use Rattle.meaning.specs.Demand3.{upTo}
+use Rattle.meaning.specs.Trees.{RowKind, FlatKind, XKind, Leaf, Expr, nth, Placed, _at_, leaves, Each, Member}
 use Rattle.meaning.specs.Laws.Tests.{each-map}
 use Rattle.frames.specs.declared.node.Node.{Node}
 use Rattle.kinds.specs.KindBytes as kind
@@ -20,7 +19,7 @@ use Rattle.kinds.specs.Kinds.{childCount}
 use Rattle.pool.specs.Pool.{Pool, node, rootOf, children}
 use Rattle.pool.specs.Trees.{leafOf, literalOf, Class, leafy, class, tree}
 use Rattle.pool.specs.Shaped.{Shaped}
-use Rattle.pool.specs.Admission.{leadsTo, Member}
+use Rattle.pool.specs.Admission.{leadsTo}
 use Rattle.pool.specs.Laws.Members.{each-member, member-each}
 use Rattle.pool.specs.Laws.Trees.{arity, arity-is, class-leafy, leaves-under, leaf-is}
 use Rattle.pool.specs.Laws.Walks.{OfNode, of-node}

@@ -11,13 +11,13 @@ use lib.ListN.{length, getD, set, length-set}
 use lib.Seq.{getD-set-same, getD-set-other}
 use lib.Dec.{eqb, ltb}
 use borrow.Author.Tests.{lt-ltb, le-ltb, eqb-true, eqb-false}
-use Rattle.meaning.specs.Trees.{Placed, leaves, Each}
+use Rattle.meaning.specs.Trees.{Placed, leaves, Each, Member}
 use Rattle.meaning.specs.Laws.Tests.{each-both}
 use Rattle.pool.specs.Words.{rootIn}
 use Rattle.pool.specs.Pool.{Pool, rootOf}
 use Rattle.pool.specs.Trees.{tree}
 use Rattle.pool.specs.Shaped.{Shaped}
-use Rattle.pool.specs.Admission.{leadsTo, Member, Edge, Walk, ClosedWalk}
+use Rattle.pool.specs.Admission.{leadsTo, Edge, Walk, ClosedWalk}
 use Rattle.pool.specs.Tabled.{Tables, tabled}
 use Rattle.pool.specs.Ranking.{cycleFound, countBelow, pending, zeros, Later, P, Leads, Sound, State, Follows, AsksVisit, AsksWalk, Ranks, Gives}
 use Rattle.pool.specs.Laws.Members.{each-member, member-each}

@@ -10,7 +10,7 @@ use lib.Seq.{getD-set-same, getD-set-other}
 use lib.Dec.{eqb}
 use native.Mathlib.Numerals.{add-one}
 use borrow.Author.Tests.{eqb-true, eqb-false, eq-eqb, ne-eqb}
-use Rattle.meaning.specs.Demand3.{upTo}
+use Rattle.meaning.specs.Trees.{upTo}
 use Rattle.frames.specs.Tables.{countIn}
 use Rattle.pool.specs.Words.{c0In, c1In, c2In, rootIn}
 use Rattle.pool.specs.Pool.{times}

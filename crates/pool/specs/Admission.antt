@@ -9,7 +9,7 @@ use mathlib.Core.Logic.{_⊎_}
 use lib.ListN.{length}
 use lib.Dec.{eqb, ltb, leb}
 use Rattle.meaning.specs.Refusals.{Refusal, Answer, done, refused, _then_}
-use Rattle.meaning.specs.Trees.{RowKind, Leaf, Expr, nth, Placed, _at_, leaves}
+use Rattle.meaning.specs.Trees.{RowKind, Leaf, Expr, nth, Placed, _at_, leaves, Member}
 use Rattle.frames.specs.declared.node.Node.{Node}
 use Rattle.kinds.specs.KindBytes as kind
 use Rattle.kinds.specs.Kinds.{childCount}
@@ -74,10 +74,6 @@ leadsTo table (Leaf.exp i a at n) = some i
 leadsTo table (Leaf.number l at n) = none
 leadsTo table (Leaf.flat k i at n) = none
 leadsTo table (Leaf.x k at n) = none
-
-abbrev pub Member : {A : Type 0} → A → List A → Type 0
-Member a [] = ⊥
-Member a (b ∷ l) = (b ≡ a) ⊎ Member a l
 
 -- a leaf of expression e leads to expression t
 pub record Edge (p : Pool) (table : List ℕ) (e t : ℕ) : Type 0 where

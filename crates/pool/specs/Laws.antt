@@ -5,3 +5,4 @@ pub mod Shape
 pub mod Walks
 pub mod Forest
 pub mod Tabled
+pub mod Names

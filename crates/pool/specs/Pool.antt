@@ -5,8 +5,7 @@ use mathlib.Core.Bool.{Bool, true, false, cond}
 use mathlib.Core.Option.{Option, none, some}
 use mathlib.Core.List.{List, [], _∷_, _++_}
 use lib.Dec.{eqb}
-use Rattle.meaning.specs.Trees.{nth}
-use Rattle.meaning.specs.Demand3.{upTo}
+use Rattle.meaning.specs.Trees.{nth, upTo}
 use Rattle.frames.specs.declared.node.Node.{Node}
 use Rattle.frames.specs.declared.rest.Expression.{Expression}
 use Rattle.kinds.specs.KindBytes as kind

@@ -9,16 +9,17 @@ use mathlib.Core.List.{List, [], _∷_}
 use mathlib.Core.Logic.{_⊎_}
 use lib.ListN.{length, getD}
 use lib.Dec.{ltb}
-use Rattle.meaning.specs.Trees.{Placed, leaves, Each}
+use Rattle.frames.specs.Order.{nodeLimit, expressionLimit}
+use Rattle.meaning.specs.Trees.{Placed, leaves, Each, Member}
 use Rattle.pool.specs.Pool.{Pool, rootOf}
 use Rattle.pool.specs.Trees.{tree}
 use Rattle.pool.specs.Shaped.{Shaped}
-use Rattle.pool.specs.Admission.{leadsTo, Member, Walk, ClosedWalk, Ranked}
+use Rattle.pool.specs.Admission.{leadsTo, Walk, ClosedWalk, Ranked}
 use Rattle.pool.specs.Tabled.{Tables, tabled}
 
 -- the answer of a walk that comes back to where it began; any other is how many expressions are ranked
 abbrev pub cycleFound : ℕ
-cycleFound = 513
+cycleFound = expressionLimit + 1
 
 -- how many of the first m pass a test
 unfoldable pub countBelow : (ℕ → Bool) → ℕ → ℕ
@@ -54,10 +55,10 @@ module _ (t : Tables) (table : List ℕ) where
 
   pub record State (s : List ℕ) (done : ℕ) : Type 0 where
     pub shaped : Shaped P
-    pub fewNodes : t .nodeCount ≤ 4096
-    pub fewExpressions : t .expressionCount ≤ 512
+    pub fewNodes : t .nodeCount ≤ nodeLimit
+    pub fewExpressions : t .expressionCount ≤ expressionLimit
     pub tabulated : (u : ℕ) → Member u table → u < t .expressionCount
-    pub size : length s ≡ 512
+    pub size : length s ≡ expressionLimit
     pub sound : Sound s done
     pub counted : done + countBelow (pending s) (t .expressionCount) ≡ t .expressionCount
 
@@ -107,8 +108,8 @@ WalkGiven w x table s s′ done i r =
 -- a pool that has its shape, within the limits, and a table whose expressions are there
 pub record Starts (t : Tables) (table : List ℕ) : Type 0 where
   pub shaped : Shaped (tabled t)
-  pub fewNodes : t .nodeCount ≤ 4096
-  pub fewExpressions : t .expressionCount ≤ 512
+  pub fewNodes : t .nodeCount ≤ nodeLimit
+  pub fewExpressions : t .expressionCount ≤ expressionLimit
   pub tabulated : (u : ℕ) → Member u table → u < t .expressionCount
 
 -- the rank that stands in a table of ranks

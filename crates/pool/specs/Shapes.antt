@@ -7,6 +7,7 @@ use mathlib.Core.Option.{Option, none, some}
 use mathlib.Core.List.{List, [], _∷_, _++_}
 use lib.ListN.{length, getD}
 use lib.Dec.{eqb, leb}
+use Rattle.frames.specs.Order.{nodeLimit}
 use Rattle.frames.specs.Tables.{kindIn, idIn, countIn}
 use Rattle.pool.specs.Words.{rootIn}
 use Rattle.kinds.specs.KindBytes as kind
@@ -57,8 +58,8 @@ rootUsesIn x (suc m) = rootUsesIn x m ++ (rootIn x m ∷ [])
 
 -- a table of uses, each counted up to two
 pub record Tallied (u : List ℕ) (us : List ℕ) : Type 0 where
-  pub size : length u ≡ 4096
-  pub counts : (k : ℕ) → k < 4096 → getD u k 0 ≡ min 2 (times k us)
+  pub size : length u ≡ nodeLimit
+  pub counts : (k : ℕ) → k < nodeLimit → getD u k 0 ≡ min 2 (times k us)
 
 -- what is tallied grows
 abbrev pub Tallies : List ℕ → List ℕ → List ℕ → Type 0

@@ -2,7 +2,7 @@
 -- Assumes nothing: these are definitions.
 use Prim.Native.Nat.{ℕ, zero, suc}
 use mathlib.Core.List.{List, [], _∷_, _++_}
-use Rattle.meaning.specs.Demand3.{upTo}
+use Rattle.meaning.specs.Trees.{upTo}
 use Rattle.frames.specs.Tables.{countIn, nodeIn, expressionIn, first as firstOf}
 use Rattle.pool.specs.Words.{c0In, c1In, c2In, rootIn}
 use Rattle.pool.specs.Pool.{Pool}

@@ -6,11 +6,12 @@ use mathlib.Core.Option.{Option, none, some}
 use mathlib.Core.List.{List}
 use mathlib.Core.Logic.{_⊎_}
 use lib.ListN.{length}
+use Rattle.meaning.specs.Trees.{Member}
 use Rattle.meaning.specs.Refusals.{Refusal, Answer, done, refused}
 use Rattle.kinds.specs.KindBytes as kind
 use Rattle.kinds.specs.Kinds.{childCount}
 use Rattle.pool.specs.Pool.{Pool, node, rootOf, children, uses, times}
-use Rattle.pool.specs.Admission.{shape, Member, ClosedWalk, Ranked}
+use Rattle.pool.specs.Admission.{shape, ClosedWalk, Ranked}
 
 module _ (p : Pool) where
   -- 2: some node's child count differs from the table

@@ -16,18 +16,18 @@ ghost use Prim.Native.Nat.{_≤_};
 ghost use Rattle.pool.specs.Ranking.{AllAsked};
 ghost use Rattle.pool.specs.Admitting.{ShapeGiven, RankedGiven, Fits, AdmitGiven, bare};
 
-// A refusal with the node to blame; a root that is not there has none, and its expression stands here.
+// A refusal with the node to blame; a root that is not there has none.
 pub enum Shape {
     ChildCount(usize),
     NotThere(usize),
-    LostRoot(usize),
+    LostRoot,
     Fine,
 }
 
 pub enum Verdict {
     ChildCount(usize),
     NotThere(usize),
-    LostRoot(usize),
+    LostRoot,
     Cycle,
     Admitted,
 }
@@ -68,8 +68,8 @@ fn shape_of(
         return Shape::NotThere(i);
     }
     let root = first_lost_root(expressions, n, m);
-    if let Found::At(e) = root {
-        return Shape::LostRoot(e);
+    if let Found::At(_) = root {
+        return Shape::LostRoot;
     }
     Shape::Fine
 }
@@ -121,7 +121,7 @@ pub fn admit(
     match shape_of(nodes, expressions, n, m) {
         Shape::ChildCount(i) => refused(Verdict::ChildCount(i)),
         Shape::NotThere(i) => refused(Verdict::NotThere(i)),
-        Shape::LostRoot(e) => refused(Verdict::LostRoot(e)),
+        Shape::LostRoot => refused(Verdict::LostRoot),
         Shape::Fine => ranked(nodes, expressions, table, m),
     }
 }

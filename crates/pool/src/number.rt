@@ -18,7 +18,7 @@ fn verdict_number(verdict: Verdict) -> u8
     match verdict {
         Verdict::ChildCount(_) => 2,
         Verdict::NotThere(_) => 3,
-        Verdict::LostRoot(_) => 3,
+        Verdict::LostRoot => 3,
         Verdict::Cycle => 4,
         Verdict::Admitted => 0,
     }

@@ -6,11 +6,11 @@ use mathlib.Core.Bool.{Bool, true, false, cond}
 use mathlib.Core.Option.{Option, none, some, Option·none-ne-some, Option·some-injective}
 use mathlib.Core.List.{List, [], _∷_}
 use mathlib.Core.Logic.{_⊎_, inl, inr}
-use Rattle.meaning.specs.Trees.{Each}
+use Rattle.meaning.specs.Trees.{Each, Member, upTo}
 use Rattle.meaning.specs.Steps.{Kind, Cell, same, place, Ref, StepOp, Step}
 use Rattle.meaning.specs.Values.{Algebra, Given, bind}
 use Rattle.meaning.specs.Running.{Store, empty, set, writable, write, before, either, two, three, apply, read, readAll, computes, exec, run}
-use Rattle.meaning.specs.Demand3.{Ungiven, In, Written, needs, upTo, writing, NoEarlyRead}
+use Rattle.meaning.specs.Demand3.{Ungiven, Written, needs, writing, NoEarlyRead}
 use Rattle.meaning.specs.Laws.Tests.{bind-some, each-map}
 use Rattle.meaning.specs.Laws.Cells.{same-eq}
 
@@ -27,7 +27,7 @@ ungiven-none G (Cell.cell (Kind.bare k) i r) h = refl
 module _ (𝓐 : Algebra) (G : Given (𝓐 .A)) where
   -- what a store holds stands in ds
   abbrev Within : Store (𝓐 .A) → List Cell → Type 0
-  Within s ds = (c : Cell) (v : 𝓐 .A) → s c ≡ some v → In c ds
+  Within s ds = (c : Cell) (v : 𝓐 .A) → s c ≡ some v → Member c ds
 
   abbrev Reads : Store (𝓐 .A) → Ref → Type 0
   Reads s r = (v : 𝓐 .A) × (read 𝓐 G s r ≡ some v)
@@ -35,7 +35,7 @@ module _ (𝓐 : Algebra) (G : Given (𝓐 .A)) where
   reads-written : (s : Store (𝓐 .A)) (ds : List Cell) → Within s ds → (r : Ref) → Reads s r → Written ds r
   reads-written s ds w (Ref.var c) h = λ u. go u (s (place c)) refl (h .1)
     where
-      go : Ungiven c → (o : Option (𝓐 .A)) → s (place c) ≡ o → either o (before G c) ≡ some (h .0) → In (place c) ds
+      go : Ungiven c → (o : Option (𝓐 .A)) → s (place c) ≡ o → either o (before G c) ≡ some (h .0) → Member (place c) ds
       go u none q k = absurd (Option·none-ne-some (h .0) (sym (ungiven-none G c u) ∙ k))
       go u (some x) q k = w (place c) x q
   reads-written s ds w (Ref.number l n) h = tt
@@ -73,11 +73,11 @@ module _ (𝓐 : Algebra) (G : Given (𝓐 .A)) where
   write-within : (s s′ : Store (𝓐 .A)) (ds : List Cell) → Within s ds → (d : Ref) (w : 𝓐 .A) → write s d w ≡ some s′ → Within s′ (writing d ds)
   write-within s s′ ds i (Ref.var d) w h c v k = go (writable d) h
     where
-      at : (b : Bool) → same (place d) c ≡ b → cond b (some w) (s c) ≡ some v → (place d ≡ c) ⊎ In c ds
+      at : (b : Bool) → same (place d) c ≡ b → cond b (some w) (s c) ≡ some v → (place d ≡ c) ⊎ Member c ds
       at true q z = inl (same-eq (place d) c q)
       at false q z = inr (i c v z)
 
-      go : (b : Bool) → cond b (some (set s (place d) w)) none ≡ some s′ → (place d ≡ c) ⊎ In c ds
+      go : (b : Bool) → cond b (some (set s (place d) w)) none ≡ some s′ → (place d ≡ c) ⊎ Member c ds
       go false q = absurd (Option·none-ne-some s′ q)
       go true q = at (same (place d) c) refl (subst (λ (z : Store (𝓐 .A)). z c ≡ some v) (sym (Option·some-injective _ _ q)) k)
   write-within s s′ ds i (Ref.number l n) w h c v k = absurd (Option·none-ne-some s′ h)

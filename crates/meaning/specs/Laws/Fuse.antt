@@ -110,18 +110,58 @@ module _ (𝓐 : Algebra) (G : Given (𝓐 .A)) (E : Forest) (r : ℕ) where
   first-value n (Expr.binc m o c l) b h = second-value n (Expr.binc m o c l) b h
   first-value n (Expr.neg m c) b h = second-value n (Expr.neg m c) b h
 
-  -- FUSING CHANGES NO VALUE
-  pub fuse-value : (x : Expr) {v : 𝓐 .A} → H (fuse x) v → H x v
-  fuse-value (Expr.leaf n l) h = h
-  fuse-value (Expr.bin n Op.add a b) h =
+  -- and back
+  value-sum : (n : ℕ) (a b : Expr) {v : 𝓐 .A} → SumOf a b v → H (Expr.bin n Op.add a b) v
+  value-sum n a b s = Has.bin (s .0) (s .1) (s .2) (s .3) (s .4)
+
+  value-second : (n : ℕ) (a b : Expr) {v : 𝓐 .A} → SumOf a b v → H (second n a b) v
+  value-second n a (Expr.leaf m l) s = value-sum n a (Expr.leaf m l) s
+  value-second n a (Expr.bin m Op.add b c) s = value-sum n a (Expr.bin m Op.add b c) s
+  value-second n a (Expr.bin m Op.sub b c) s = value-sum n a (Expr.bin m Op.sub b c) s
+  value-second n a (Expr.bin m Op.mul b c) {v} s = product (s .3)
+    where
+      product : H (Expr.bin m Op.mul b c) (s .1) → H (Expr.muladd n b c a) v
+      product (Has.bin y z h k q) = Has.muladd y z (s .0) h k (s .2) (s .4 ∙ 𝓐 .plus-comm (s .0) (s .1) ∙ ap (λ u. 𝓐 .plus u (s .0)) q)
+  value-second n a (Expr.muladd m b c d) s = value-sum n a (Expr.muladd m b c d) s
+  value-second n a (Expr.binc m o b l) s = value-sum n a (Expr.binc m o b l) s
+  value-second n a (Expr.neg m b) s = value-sum n a (Expr.neg m b) s
+
+  value-first : (n : ℕ) (a b : Expr) {v : 𝓐 .A} → SumOf a b v → H (first n a b) v
+  value-first n (Expr.leaf m l) b s = value-second n (Expr.leaf m l) b s
+  value-first n (Expr.bin m Op.add c d) b s = value-second n (Expr.bin m Op.add c d) b s
+  value-first n (Expr.bin m Op.sub c d) b s = value-second n (Expr.bin m Op.sub c d) b s
+  value-first n (Expr.bin m Op.mul c d) b {v} s = product (s .2)
+    where
+      product : H (Expr.bin m Op.mul c d) (s .0) → H (Expr.muladd n c d b) v
+      product (Has.bin y z h k q) = Has.muladd y z (s .1) h k (s .3) (s .4 ∙ ap (λ u. 𝓐 .plus u (s .1)) q)
+  value-first n (Expr.muladd m c d e) b s = value-second n (Expr.muladd m c d e) b s
+  value-first n (Expr.binc m o c l) b s = value-second n (Expr.binc m o c l) b s
+  value-first n (Expr.neg m c) b s = value-second n (Expr.neg m c) b s
+
+  to-plain : (x : Expr) {v : 𝓐 .A} → H (fuse x) v → H x v
+  to-plain (Expr.leaf n l) h = h
+  to-plain (Expr.bin n Op.add a b) h =
       let s = first-value n (fuse a) (fuse b) h in
-      Has.bin (s .0) (s .1) (fuse-value a (s .2)) (fuse-value b (s .3)) (s .4)
-  fuse-value (Expr.bin n Op.sub a b) (Has.bin y z h k q) = Has.bin y z (fuse-value a h) (fuse-value b k) q
-  fuse-value (Expr.bin n Op.mul a b) (Has.bin y z h k q) = Has.bin y z (fuse-value a h) (fuse-value b k) q
-  fuse-value (Expr.muladd n a b c) (Has.muladd y z w h k l q) = Has.muladd y z w (fuse-value a h) (fuse-value b k) (fuse-value c l) q
-  fuse-value (Expr.binc n o a l) (Has.binc y h q) = Has.binc y (fuse-value a h) q
-  fuse-value (Expr.neg n a) (Has.neg y h q) = Has.neg y (fuse-value a h) q
+      Has.bin (s .0) (s .1) (to-plain a (s .2)) (to-plain b (s .3)) (s .4)
+  to-plain (Expr.bin n Op.sub a b) (Has.bin y z h k q) = Has.bin y z (to-plain a h) (to-plain b k) q
+  to-plain (Expr.bin n Op.mul a b) (Has.bin y z h k q) = Has.bin y z (to-plain a h) (to-plain b k) q
+  to-plain (Expr.muladd n a b c) (Has.muladd y z w h k l q) = Has.muladd y z w (to-plain a h) (to-plain b k) (to-plain c l) q
+  to-plain (Expr.binc n o a l) (Has.binc y h q) = Has.binc y (to-plain a h) q
+  to-plain (Expr.neg n a) (Has.neg y h q) = Has.neg y (to-plain a h) q
+
+  to-fused : (x : Expr) {v : 𝓐 .A} → H x v → H (fuse x) v
+  to-fused (Expr.leaf n l) h = h
+  to-fused (Expr.bin n Op.add a b) (Has.bin y z h k q) = value-first n (fuse a) (fuse b) (y, z, to-fused a h, to-fused b k, q)
+  to-fused (Expr.bin n Op.sub a b) (Has.bin y z h k q) = Has.bin y z (to-fused a h) (to-fused b k) q
+  to-fused (Expr.bin n Op.mul a b) (Has.bin y z h k q) = Has.bin y z (to-fused a h) (to-fused b k) q
+  to-fused (Expr.muladd n a b c) (Has.muladd y z w h k l q) = Has.muladd y z w (to-fused a h) (to-fused b k) (to-fused c l) q
+  to-fused (Expr.binc n o a l) (Has.binc y h q) = Has.binc y (to-fused a h) q
+  to-fused (Expr.neg n a) (Has.neg y h q) = Has.neg y (to-fused a h) q
+
+  -- FUSING CHANGES NO VALUE
+  pub fuse-value : (x : Expr) (v : 𝓐 .A) → H (fuse x) v ↔ H x v
+  fuse-value x v = (to-plain x, to-fused x)
 
   pub asked-value : (fused : Bool) (x : Expr) {v : 𝓐 .A} → H (asked fused x) v → H x v
-  asked-value true x h = fuse-value x h
+  asked-value true x h = to-plain x h
   asked-value false x h = h

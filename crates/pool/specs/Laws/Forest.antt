@@ -10,7 +10,7 @@ use native.Mathlib.Nat.{not-suc-le-zero, le-of-suc-le-suc}
 use lib.ListN.{length}
 use lib.Dec.{eqb}
 use borrow.Author.Tests.{eqb-true}
-use Rattle.meaning.specs.Trees.{RowKind, FlatKind, XKind, Leaf, Expr, Forest, Falls, Acyclic, nth, Placed, _at_, leaves, Each}
+use Rattle.meaning.specs.Trees.{RowKind, FlatKind, XKind, Leaf, Expr, Forest, Falls, Acyclic, nth, Placed, _at_, leaves, Each, Member}
 use Rattle.meaning.specs.Trees as meaning
 use Rattle.frames.specs.declared.node.Node.{Node}
 use Rattle.frames.specs.declared.rest.Expression.{Expression}
@@ -18,7 +18,7 @@ use Rattle.kinds.specs.KindBytes as kind
 use Rattle.pool.specs.Pool.{Pool, node, rootOf, orElse}
 use Rattle.pool.specs.Trees.{literalOf, leafOf, tree, expressionOf, forestFrom, forest}
 use Rattle.pool.specs.Shaped.{Shaped}
-use Rattle.pool.specs.Admission.{leadsTo, Member, Edge, Ranked}
+use Rattle.pool.specs.Admission.{leadsTo, Edge, Ranked}
 use Rattle.pool.specs.Laws.Members.{each-member, member-each}
 use Rattle.pool.specs.Laws.Walks.{skip, OfNode, of-node}
 

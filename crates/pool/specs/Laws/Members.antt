@@ -3,8 +3,7 @@
 use mathlib.Core.Path.{_≡_, refl, subst}
 use mathlib.Core.List.{List, [], _∷_}
 use mathlib.Core.Logic.{_⊎_, inl, inr}
-use Rattle.meaning.specs.Trees.{Each}
-use Rattle.pool.specs.Admission.{Member}
+use Rattle.meaning.specs.Trees.{Each, Member}
 
 pub each-member : {A : Type 0} (P : A → Type 0) (l : List A) → ((a : A) → Member a l → P a) → Each P l
 each-member P [] h = tt

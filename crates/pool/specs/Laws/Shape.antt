@@ -11,12 +11,12 @@ use lib.ListN.{length}
 use lib.Dec.{eqb, leb}
 use borrow.Author.Tests.{eqb-true, eqb-false, leb-true, leb-false, le-leb, lt-leb, eq-eqb, ne-eqb, not-true, not-false}
 use Rattle.meaning.specs.Refusals.{Refusal, number, Answer, done, refused, answerNo, _then_}
-use Rattle.meaning.specs.Trees.{Each}
+use Rattle.meaning.specs.Trees.{Each, Member}
 use Rattle.meaning.specs.Laws.Tests.{and-left, and-right, true-false}
 use Rattle.kinds.specs.KindBytes as kind
 use Rattle.kinds.specs.Kinds.{childCount}
 use Rattle.pool.specs.Pool.{Pool, node, rootOf, children, uses, times}
-use Rattle.pool.specs.Admission.{firstFrom, first, wrongCount, someFrom, lateChild, usedTwice, lostLeaf, lostRoot, unless, shape, Member}
+use Rattle.pool.specs.Admission.{firstFrom, first, wrongCount, someFrom, lateChild, usedTwice, lostLeaf, lostRoot, unless, shape}
 use Rattle.pool.specs.Shaped.{Shaped}
 use Rattle.pool.specs.Verdict.{SomeWrongCount, SomeLateChild, SomeUsedTwice, SomeLostLeaf, SomeLostRoot, SomeNotThere}
 use Rattle.pool.specs.Laws.Members.{member-each}

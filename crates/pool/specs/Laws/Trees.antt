@@ -12,7 +12,6 @@ use lib.ListN.{length}
 use lib.Dec.{T, eqb, ltb, eqb→eq}
 use borrow.Author.Tests.{ne-eqb, ltb-true, ltb-false}
 use Rattle.meaning.specs.Trees.{Op, OpC, Leaf, Expr, Placed, _at_, leaves, Each}
-use Rattle.meaning.specs.Demand3.{upTo}
 use Rattle.meaning.specs.Laws.Tests.{each-left, each-right, each-join, each-map}
 use Rattle.frames.specs.declared.node.Node.{Node}
 use Rattle.kinds.specs.KindBytes as kind
@@ -139,3 +138,17 @@ module _ (p : Pool) (shaped : Shaped p) where
   -- A LEAF'S TREE is that leaf
   pub leaf-is : (n : ℕ) → n < length (p .nodes) → class (node p n .kind) ≡ leafy → tree p n ≡ Expr.leaf n (leafOf (node p n))
   leaf-is n h q = tree-is n h ∙ rw q
+
+  -- ONE LAW FOR EACH CLASS OF KINDS
+  module _ (n : ℕ) (h : n < length (p .nodes)) where
+    pub tree-binary : {o : Op} → class (node p n .kind) ≡ binary o → tree p n ≡ Expr.bin n o (tree p (node p n .c0)) (tree p (node p n .c1))
+    tree-binary q = tree-is n h ∙ rw q
+
+    pub tree-muladd : class (node p n .kind) ≡ fused → tree p n ≡ Expr.muladd n (tree p (node p n .c0)) (tree p (node p n .c1)) (tree p (node p n .c2))
+    tree-muladd q = tree-is n h ∙ rw q
+
+    pub tree-constant : {o : OpC} → class (node p n .kind) ≡ constant o → tree p n ≡ Expr.binc n o (tree p (node p n .c0)) (literalOf (node p n))
+    tree-constant q = tree-is n h ∙ rw q
+
+    pub tree-neg : class (node p n .kind) ≡ negation → tree p n ≡ Expr.neg n (tree p (node p n .c0))
+    tree-neg q = tree-is n h ∙ rw q

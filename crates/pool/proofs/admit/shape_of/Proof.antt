@@ -63,17 +63,17 @@ enum-told-4 c = search needs
 first-lost-root-requires : tie.Need-first-lost-root-requires
 first-lost-root-requires c κs = search needs
 
-enum-known-root : tie.Need-enum-known-root
-enum-known-root c = search needs
-
-returns-5 : tie.Need-returns-5
-returns-5 c = λ l. shape-root _ refl (c .before .before .before .before .before .before .before .before .before .before .before .before .before .before .tally-nodes .ensures) (c .before .before .before .before .before .before .before .before .before .before .before .before .tally-roots .ensures) (c .before .before .before .before .before .before .before .before .before .before .before .before .before .before .before .before .before .before .before .before .before .before .before .before .pre .0) (ap foundAt (sym (c .before .before .before .before .before .before .before .before .before .before .before .before .before .before .before .before .before .before .before .before .enum-told .given .1)) ∙ c .before .before .before .before .before .before .before .before .before .before .before .before .before .before .before .before .before .before .before .before .before .before .first-offender .ensures) (ap foundAt (sym (c .before .before .before .before .before .before .before .before .before .before .before .before .before .before .before .before .enum-told2 .given .1)) ∙ c .before .before .before .before .before .before .before .before .before .before .before .before .before .before .before .before .before .before .first-offender2 .ensures) (ap foundAt (sym (c .before .before .before .before .before .before .before .before .enum-told3 .given .1)) ∙ c .before .before .before .before .before .before .before .before .before .before .first-offender3 .ensures) (ap foundAt (sym (c .before .before .before .before .enum-told4 .given .1)) ∙ c .before .before .before .before .before .before .first-offender4 .ensures) (ap foundAt (sym (c .before .root .given .1)) ∙ c .before .before .before .first-lost-root .ensures)
-
 enum-told-5 : tie.Need-enum-told-5
 enum-told-5 c = search needs
 
+returns-5 : tie.Need-returns-5
+returns-5 c = λ l. shape-root _ refl (c .before .before .before .before .before .before .before .before .before .before .before .before .before .tally-nodes .ensures) (c .before .before .before .before .before .before .before .before .before .before .before .tally-roots .ensures) (c .before .before .before .before .before .before .before .before .before .before .before .before .before .before .before .before .before .before .before .before .before .before .before .pre .0) (ap foundAt (sym (c .before .before .before .before .before .before .before .before .before .before .before .before .before .before .before .before .before .before .before .enum-told .given .1)) ∙ c .before .before .before .before .before .before .before .before .before .before .before .before .before .before .before .before .before .before .before .before .before .first-offender .ensures) (ap foundAt (sym (c .before .before .before .before .before .before .before .before .before .before .before .before .before .before .before .enum-told2 .given .1)) ∙ c .before .before .before .before .before .before .before .before .before .before .before .before .before .before .before .before .before .first-offender2 .ensures) (ap foundAt (sym (c .before .before .before .before .before .before .before .enum-told3 .given .1)) ∙ c .before .before .before .before .before .before .before .before .before .first-offender3 .ensures) (ap foundAt (sym (c .before .before .before .enum-told4 .given .1)) ∙ c .before .before .before .before .before .first-offender4 .ensures) (ap foundAt (sym (c .enum-told5 .given .1)) ∙ c .before .before .first-lost-root .ensures)
+
+enum-told-6 : tie.Need-enum-told-6
+enum-told-6 c = search needs
+
 returns-6 : tie.Need-returns-6
-returns-6 c = λ l. shape-fine _ refl (c .before .before .before .before .before .before .before .before .before .before .before .before .before .tally-nodes .ensures) (c .before .before .before .before .before .before .before .before .before .before .before .tally-roots .ensures) (c .before .before .before .before .before .before .before .before .before .before .before .before .before .before .before .before .before .before .before .before .before .before .before .pre .0) (ap foundAt (sym (c .before .before .before .before .before .before .before .before .before .before .before .before .before .before .before .before .before .before .before .enum-told .given .1)) ∙ c .before .before .before .before .before .before .before .before .before .before .before .before .before .before .before .before .before .before .before .before .before .first-offender .ensures) (ap foundAt (sym (c .before .before .before .before .before .before .before .before .before .before .before .before .before .before .before .enum-told2 .given .1)) ∙ c .before .before .before .before .before .before .before .before .before .before .before .before .before .before .before .before .before .first-offender2 .ensures) (ap foundAt (sym (c .before .before .before .before .before .before .before .enum-told3 .given .1)) ∙ c .before .before .before .before .before .before .before .before .before .first-offender3 .ensures) (ap foundAt (sym (c .before .before .before .enum-told4 .given .1)) ∙ c .before .before .before .before .before .first-offender4 .ensures) (ap foundAt (sym (c .enum-told5 .given .1)) ∙ c .before .before .first-lost-root .ensures)
+returns-6 c = λ l. shape-fine _ refl (c .before .before .before .before .before .before .before .before .before .before .before .before .before .tally-nodes .ensures) (c .before .before .before .before .before .before .before .before .before .before .before .tally-roots .ensures) (c .before .before .before .before .before .before .before .before .before .before .before .before .before .before .before .before .before .before .before .before .before .before .before .pre .0) (ap foundAt (sym (c .before .before .before .before .before .before .before .before .before .before .before .before .before .before .before .before .before .before .before .enum-told .given .1)) ∙ c .before .before .before .before .before .before .before .before .before .before .before .before .before .before .before .before .before .before .before .before .before .first-offender .ensures) (ap foundAt (sym (c .before .before .before .before .before .before .before .before .before .before .before .before .before .before .before .enum-told2 .given .1)) ∙ c .before .before .before .before .before .before .before .before .before .before .before .before .before .before .before .before .before .first-offender2 .ensures) (ap foundAt (sym (c .before .before .before .before .before .before .before .enum-told3 .given .1)) ∙ c .before .before .before .before .before .before .before .before .before .first-offender3 .ensures) (ap foundAt (sym (c .before .before .before .enum-told4 .given .1)) ∙ c .before .before .before .before .before .first-offender4 .ensures) (ap foundAt (sym (c .enum-told6 .given .1)) ∙ c .before .before .first-lost-root .ensures)
 
 pub shape-of-spec : {M : Type 1} → statement M
 shape-of-spec =
@@ -98,7 +98,7 @@ shape-of-spec =
     returns-4
     enum-told-4
     first-lost-root-requires
-    enum-known-root
-    returns-5
     enum-told-5
+    returns-5
+    enum-told-6
     returns-6)

@@ -5,57 +5,40 @@ use Rattle.pool.proofs.Numbers.{refused-number, read-fits, judged-numbe
 use borrow.Author.Needs.{needs}
 use Rattle.pool.proofs.number.number_of.Statement.{statement}
 use Rattle.pool.proofs.number.number_of.Tie as tie
-use Rattle.pool.proofs.number.number_of.Reads as reads
-use Rattle.pool.proofs.number.number_of.Lts as lts
-use Rattle.frames.proofs.read.read.Reads as read-reads
-use Rattle.pool.proofs.admit.admit.Reads as admit-reads
-use Rattle.pool.proofs.number.verdict_number.Reads as verdict-number-reads
 
--- src/number.rt:34:11
 read-requires : tie.Need-read-requires
 read-requires c κs = search needs
 
--- src/number.rt:35:34
 enum-told : tie.Need-enum-told
 enum-told c = search needs
 
--- src/number.rt:36:29
 enum-told-2 : tie.Need-enum-told-2
 enum-told-2 c = search needs
 
--- src/number.rt:37:23
 enum-known-c : tie.Need-enum-known-c
 enum-known-c c = search needs
 
--- src/number.rt:38:57
 sub-admit : tie.Need-sub-admit
 sub-admit c = search needs
 
--- src/number.rt:38:57
 part-admit-start : tie.Need-part-admit-start
 part-admit-start c = search needs
 
--- src/number.rt:38:57
 part-admit-end : tie.Need-part-admit-end
 part-admit-end c = search needs
 
--- src/number.rt:38:17
 admit-requires : tie.Need-admit-requires
 admit-requires c κs = read-fits (c .before .before .before .before .before .before .before .read .ensures) (c .before .before .before .before .before .c .given .1)
 
--- src/number.rt:40:13
 verdict-number-requires : tie.Need-verdict-number-requires
 verdict-number-requires c κs = search needs
 
--- src/number.rt:27:1
 returns : tie.Need-returns
 returns c = refused-number (ap (held _) (sym (c .enum-told .given .1)) ∙ c .before .before .read .ensures .answer)
 
--- src/number.rt:27:1
 returns-2 : tie.Need-returns-2
 returns-2 c = refused-number (ap (held _) (sym (c .enum-told2 .given .1)) ∙ c .before .before .read .ensures .answer)
 
--- src/number.rt:27:1
 returns-3 : tie.Need-returns-3
 returns-3 c = judged-number (c .before .before .before .before .before .before .before .before .before .read .ensures) (c .before .before .before .before .before .before .before .c .given .1) (c .before .admit .ensures _) (c .verdict-number .ensures)
 

@@ -1,0 +1,8 @@
+-- Lemmas over plain variables, which the functions' proofs cite.
+pub mod Reading
+pub mod Fused
+pub mod Planned
+pub mod Leaves
+pub mod Calls
+pub mod Emits
+pub mod Blocks

@@ -1,0 +1,7 @@
+// Generation (document 01, module 3): the steps of expressions, written into a lent list.
+pub mod block;
+pub mod count;
+pub mod eval;
+pub mod operation;
+pub mod source;
+pub mod words;
