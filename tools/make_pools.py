@@ -75,6 +75,9 @@ def good():
     case("expressions-backwards", 0, exp(1), exp(2), cm(), root(0), root(1), root(2))
     case("one-expression-asked-twice", 0, cm(), exp(0), exp(0), node(MUL, 1, 2), root(0), root(3))
     case("request-of-an-expression-not-there", 0, cm(), root(0), request(9))
+    for kind in (PUBLIC, CHALLENGE, EVAL, XI, WXI, X):
+        case(f"next-on-kind-{kind:02x}", 0, node(kind, next=1), root(0))
+    case("next-on-a-number", 0, node(NUMBER, next=1, tail=literal(0, 3)), root(0))
 
 
 def malformed():
@@ -82,14 +85,19 @@ def malformed():
     raw("cut-in-a-frame", 1, two(6) + cm()[:5])
     raw("length-one-too-long", 1, two(7) + cm())
     case("empty-frame", 1, b"")
+    case("node-of-1-byte", 1, cm()[:1])
+    case("node-of-5-bytes", 1, cm()[:5])
+    case("expression-of-1-byte", 1, cm(), root(0)[:1])
+    case("request-of-1-byte", 1, request(0)[:1])
     for kind in (0x00, 0x08, 0x0F, 0x1B, 0x20, 0x28, 0xFF):
         case(f"kind-{kind:02x}", 1, node(kind))
     for kind in (0x00, 0x04, 0x05, 0xFF):
         case(f"type-{kind:02x}", 1, bytes([kind]) + cm()[1:])
     case("next-2", 1, cm(next=2))
     case("next-ff-on-an-operation", 1, cm(), node(NEG, 0, next=255))
-    for kind in (ADD, NEG, NUMBER, XI, WXI, X):
-        case(f"id-of-kind-{kind:02x}", 1, node(kind, id=1, tail=literal(0, 0) if kind == NUMBER else b""))
+    for kind, count in ((ADD, 2), (SUB, 2), (MUL, 2), (MULADD, 3), (ADDC, 1), (MULC, 1), (NEG, 1), (NUMBER, 0), (XI, 0), (WXI, 0), (X, 0)):
+        tail = literal(0, 0) if kind in (ADDC, MULC, NUMBER) else b""
+        case(f"id-of-kind-{kind:02x}", 1, *[cm()] * count, node(kind, *range(count), id=1, tail=tail))
     case("minus-zero", 1, number(1, 0))
     case("plus-zero", 0, number(0, 0))
     case("sign-2", 1, number(2, 5))
@@ -103,6 +111,8 @@ def malformed():
         case(f"{name}-too-large", 1, cm(), node(kind, 0, tail=literal(0, 2**63)))
         case(f"{name}-least", 0, cm(), node(kind, 0, tail=literal(1, 2**63)))
         case(f"{name}-too-small", 1, cm(), node(kind, 0, tail=literal(1, 2**63 + 1)))
+        case(f"{name}-minus-zero", 1, cm(), node(kind, 0, tail=literal(1, 0)))
+        case(f"{name}-sign-2", 1, cm(), node(kind, 0, tail=literal(2, 7)))
     case("number-largest", 0, number(0, 2**64 - 1))
     case("number-least", 0, number(1, 2**64 - 1))
     case("flags-8", 1, cm(), root(0, 8))
@@ -111,19 +121,25 @@ def malformed():
     case("prime-2", 1, cm(), root(0), request(0, 2))
     case("muladd-2", 1, cm(), root(0), request(0, 0, 2))
     case("request-one-byte-short", 1, cm(), root(0), request(0)[:-1])
+    case("request-one-byte-more", 1, cm(), root(0), request(0) + b"\x00")
     case("node-after-expression", 1, cm(), root(0), cm())
     case("node-after-request", 1, request(0), cm())
     case("expression-after-request", 1, cm(), request(0), root(0))
+    case("malformed-after-a-wrong-count", 1, node(NEG), request(0, 2))
+    case("malformed-after-a-late-child", 1, node(NEG, 0), request(0, 2))
+    case("malformed-after-a-cycle", 1, exp(0), root(0), request(0, 2))
 
 
 def wrong_counts():
-    for kind, right in ((ADD, 2), (SUB, 2), (MUL, 2), (MULADD, 3), (ADDC, 1), (MULC, 1), (NEG, 1), (CM, 0), (X, 0)):
-        tail = literal(0, 1) if kind in (ADDC, MULC) else b""
+    for kind, right in ((ADD, 2), (SUB, 2), (MUL, 2), (MULADD, 3), (ADDC, 1), (MULC, 1), (NEG, 1), (CM, 0), (EXP, 0), (Q, 0),
+                        (NUMBER, 0), (X, 0)):
+        tail = literal(0, 1) if kind in (ADDC, MULC, NUMBER) else b""
         for count in {right - 1, right + 1} - {-1}:
             case(f"kind-{kind:02x}-with-{count}", 2, *[cm()] * count, node(kind, *range(count), tail=tail))
     case("255-children", 2, *[cm()] * 255, node(ADD, *range(255)))
     case("wrong-count-before-late-child", 2, cm(), node(ADD, 9, 9), node(NEG))
     case("wrong-count-in-a-dead-node", 2, cm(), node(NEG), root(0))
+    case("wrong-count-beside-a-cycle", 2, exp(0), node(NEG), root(0))
 
 
 def not_there():
@@ -139,6 +155,9 @@ def not_there():
     case("used-three-times", 3, cm(), node(ADD, 0, 0), root(0))
     case("root-not-there", 3, cm(), root(1))
     case("root-without-nodes", 3, root(0))
+    for beyond in (NODES, 65535):
+        case(f"child-{beyond}-in-a-full-pool", 3, *[cm()] * (NODES - 1), node(NEG, beyond))
+        case(f"root-{beyond}-in-a-full-pool", 3, *[cm()] * NODES, root(beyond))
     case("expression-not-there", 3, exp(1), root(0))
     case("expression-not-there-in-a-dead-leaf", 3, exp(1), cm(), root(1))
     case("not-there-before-a-cycle", 3, exp(0), cm(), root(0), root(9))
@@ -149,6 +168,9 @@ def cycles():
     case("cycle-of-one-primed", 4, exp(0, 1), root(0))
     case("cycle-of-two", 4, exp(1), exp(0), root(0), root(1))
     case("cycle-under-operations", 4, cm(), exp(1), node(MUL, 0, 1), node(NEG, 2), exp(0), node(NEG, 4), root(3), root(5))
+    for place in range(3):
+        leaves = [exp(0) if n == place else cm() for n in range(3)]
+        case(f"cycle-through-child-{place}-of-muladd", 4, *leaves, node(MULADD, 0, 1, 2), root(3))
     case("cycle-behind-a-tail", 4, exp(1), exp(2), exp(1), root(0), root(1), root(2))
     case("no-cycle-two-ways-to-one", 0, cm(), exp(0), exp(0), exp(1), exp(2), node(ADD, 3, 4), root(0), root(1), root(2), root(5))
     count = EXPRESSIONS
@@ -168,6 +190,11 @@ def limits():
     case("requests-one-too-many", 9, *[request(0)] * (REQUESTS + 1))
     case("past-a-limit-before-a-wrong-count", 9, node(NEG), *[request(0)] * (REQUESTS + 1))
     case("past-a-limit-and-out-of-order", 1, *[cm()] * NODES, request(0), cm())
+    case("past-a-limit-then-malformed", 9, *[cm()] * (NODES + 1), node(CM, next=2))
+    case("expressions-one-too-many-malformed", 1, *[cm()] * EXPRESSIONS, *[root(e) for e in range(EXPRESSIONS)], root(0, 8))
+    case("expressions-one-too-many-out-of-order", 1, *[cm()] * EXPRESSIONS, *[root(e) for e in range(EXPRESSIONS)], request(0), root(0))
+    case("requests-one-too-many-malformed", 1, *[request(0)] * REQUESTS, request(0, 2))
+    case("all-limits-full", 0, *[cm()] * NODES, *[root(e) for e in range(EXPRESSIONS)], *[request(0)] * REQUESTS)
     case("first-fault-decides", 1, node(CM, next=2), *[request(0)] * (REQUESTS + 1))
 
 

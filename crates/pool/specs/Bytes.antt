@@ -1,4 +1,4 @@
--- 1, 2, 3, 4 AND 9 OF A SLICE OF BYTES, each exactly when; only one number fits.
+-- 0, 1, 2, 3, 4 AND 9 OF A SLICE OF BYTES, each exactly when; no other number is given, and only one fits.
 -- Assumes nothing.
 use Prim.Native.Nat.{ℕ}
 use mathlib.Core.Path.{_≡_, refl, sym, _∙_, ap, subst}
@@ -7,14 +7,17 @@ use mathlib.Core.List.{List, []}
 use mathlib.Core.Logic.{_⊎_, inl, inr, ⊎-elim, _↔_}
 use native.Mathlib.Omega.{arith}
 use Rattle.meaning.specs.Refusals.{Refusal, number, Answer, done, refused, answerNo}
+use Rattle.meaning.specs.Trees.{Acyclic}
 use Rattle.meaning.specs.Laws.Tests.{done-same, done-not-refused, number-not-zero}
 use Rattle.frames.specs.Order.{Input}
 use Rattle.frames.specs.Reading.{framesIn, reading}
 use Rattle.frames.specs.Faults.{Wrong, Past, First}
 use Rattle.frames.specs.Exactly.{row-1, row-9, no-other}
+use Rattle.pool.specs.Trees.{forest}
+use Rattle.pool.specs.Shaped.{Shaped}
 use Rattle.pool.specs.Admission.{ClosedWalk}
 use Rattle.pool.specs.Verdict.{SomeWrongCount, SomeNotThere, Verdict}
-use Rattle.pool.specs.Exactly.{Case, cases, exactly-2, exactly-3, exactly-4, one-answer}
+use Rattle.pool.specs.Exactly.{Case, cases, exactly-0, exactly-2, exactly-3, exactly-4, one-answer}
 use Rattle.pool.specs.Numbered.{poolOf, Numbered}
 
 module _ (s : List ℕ) (r : ℕ) (h : Numbered s r) where
@@ -26,6 +29,14 @@ module _ (s : List ℕ) (r : ℕ) (h : Numbered s r) where
   data Outcome : Type 0 where
     unread : r ≡ answerNo (reading s) → (r ≡ 1) ⊎ (r ≡ 9) → ((i : Input) → reading s ≡ done i → ⊥) → Outcome
     judged : (i : Input) → reading s ≡ done i → (a : Answer (Unit {0})) → Verdict (poolOf i) [] a → r ≡ answerNo a → Outcome
+
+  pub data Given : Type 0 where
+    no-0 : r ≡ 0 → Given
+    no-1 : r ≡ 1 → Given
+    no-2 : r ≡ 2 → Given
+    no-3 : r ≡ 3 → Given
+    no-4 : r ≡ 4 → Given
+    no-9 : r ≡ 9 → Given
 
   outcome : Outcome
   outcome = go (reading s) refl (no-other s)
@@ -87,6 +98,10 @@ module _ (s : List ℕ) (r : ℕ) (h : Numbered s r) where
           let y : z .0 ≡ i = done-same _ _ (sym (z .1) ∙ q) in
           e ∙ f i a v .1 (subst Q y (z .2))
 
+  -- 0 exactly when the bytes are read as a pool that has its shape and stands for an acyclic forest
+  pub bytes-0 : (r ≡ 0) ↔ Read (λ i. Shaped (poolOf i) × Acyclic (forest (poolOf i)))
+  bytes-0 = row 0 (λ z. omega arith) (λ z. omega arith) (λ i. Shaped (poolOf i) × Acyclic (forest (poolOf i))) (λ i a v. exactly-0 (poolOf i) a v)
+
   pub bytes-2 : (r ≡ 2) ↔ Read (λ i. SomeWrongCount (poolOf i))
   bytes-2 = row 2 (λ z. omega arith) (λ z. omega arith) (λ i. SomeWrongCount (poolOf i)) (λ i a v. exactly-2 (poolOf i) [] a v)
 
@@ -97,6 +112,20 @@ module _ (s : List ℕ) (r : ℕ) (h : Numbered s r) where
   bytes-4 =
       row 4 (λ z. omega arith) (λ z. omega arith) (λ i. (SomeWrongCount (poolOf i) → ⊥) × (SomeNotThere (poolOf i) → ⊥) × ClosedWalk (poolOf i) [])
       (λ i a v. exactly-4 (poolOf i) [] a v)
+
+  -- AND NO OTHER NUMBER IS GIVEN
+  pub no-other-number : Given
+  no-other-number = go outcome
+    where
+      pool : (i : Input) (a : Answer (Unit {0})) → Case (poolOf i) [] a → r ≡ answerNo a → Given
+      pool i a (Case.admitted w k x q) e = Given.no-0 (e ∙ q)
+      pool i a (Case.two w q) e = Given.no-2 (e ∙ q)
+      pool i a (Case.three w x q) e = Given.no-3 (e ∙ q)
+      pool i a (Case.four w x q) e = Given.no-4 (e ∙ q)
+
+      go : Outcome → Given
+      go (Outcome.unread e n w) = ⊎-elim Given.no-1 Given.no-9 n
+      go (Outcome.judged i q a v e) = pool i a (cases (poolOf i) [] a v) e
 
 -- ONLY ONE NUMBER FITS
 pub one-number : (s : List ℕ) (a b : ℕ) → Numbered s a → Numbered s b → a ≡ b

@@ -1,4 +1,4 @@
--- REFUSALS 2, 3 AND 4 OF A POOL, EACH EXACTLY WHEN its row's condition holds and no earlier one does; only one answer fits the verdict.
+-- REFUSALS 2, 3 AND 4 OF A POOL, EACH EXACTLY WHEN its row's condition holds and no earlier one does, and 0; only one answer fits the verdict.
 -- Assumes nothing.
 use Prim.Native.Nat.{ℕ, _<_, _≤_}
 use mathlib.Core.Path.{_≡_, refl, sym, _∙_, ap, subst}
@@ -15,7 +15,7 @@ use Rattle.pool.specs.Admission.{shape, ClosedWalk, Ranked}
 use Rattle.pool.specs.Verdict.{SomeWrongCount, SomeNotThere, Verdict}
 use Rattle.pool.specs.Laws.Shape.{Shape, shape-is, shaped-counts, shaped-there}
 use Rattle.pool.specs.Laws.Walks.{no-closed-walk}
-use Rattle.pool.specs.Laws.Forest.{forest-acyclic}
+use Rattle.pool.specs.Laws.Forest.{forest-acyclic, acyclic-ranked}
 
 module _ (p : Pool) (table : List ℕ) where
   abbrev Ends : Answer (Unit {0}) → Type 0
@@ -103,12 +103,18 @@ module _ (p : Pool) (table : List ℕ) where
       go (done u) q = both (v .decides q) (w .decides q)
       go (refused r n) q = v .refuses r n q ∙ sym (w .refuses r n q)
 
--- WHAT ADMISSION GIVES: the pool has its shape, and the forest that it stands for is acyclic
-pub admitted-acyclic : (p : Pool) (a : Answer (Unit {0})) → Verdict p [] a → answerNo a ≡ 0 → Shaped p × Acyclic (forest p)
-admitted-acyclic p a v h = go (cases p [] a v)
+-- 0 EXACTLY WHEN the pool has its shape and stands for an acyclic forest
+pub exactly-0 : (p : Pool) (a : Answer (Unit {0})) → Verdict p [] a → (answerNo a ≡ 0) ↔ (Shaped p × Acyclic (forest p))
+exactly-0 p a v = (to (cases p [] a v), back (cases p [] a v))
   where
-    go : Case p [] a → Shaped p × Acyclic (forest p)
-    go (Case.two w q) = absurd (omega arith)
-    go (Case.three w x q) = absurd (omega arith)
-    go (Case.four s w q) = absurd (omega arith)
-    go (Case.admitted s r w q) = (s, forest-acyclic p s r w)
+    to : Case p [] a → answerNo a ≡ 0 → Shaped p × Acyclic (forest p)
+    to (Case.two w q) h = absurd (omega arith)
+    to (Case.three w x q) h = absurd (omega arith)
+    to (Case.four s w q) h = absurd (omega arith)
+    to (Case.admitted s r w q) h = (s, forest-acyclic p s r w)
+
+    back : Case p [] a → Shaped p × Acyclic (forest p) → answerNo a ≡ 0
+    back (Case.two w q) h = absurd (shaped-counts p (h .0) w)
+    back (Case.three w x q) h = absurd (shaped-there p (h .0) x)
+    back (Case.four s w q) h = absurd (no-closed-walk p [] (h .1 .rank) (acyclic-ranked p (h .1)) w)
+    back (Case.admitted s r w q) h = q

@@ -1,4 +1,4 @@
--- The forest of a well-shaped pool with ranks is acyclic: `meaning`'s theorems speak of it.
+-- The forest of a well-shaped pool is acyclic exactly when the pool has ranks: `meaning`'s theorems speak of it.
 -- Assumes nothing.
 use Prim.Native.Nat.{ℕ, zero, suc, _+_, _<_, _≤_}
 use mathlib.Core.Path.{_≡_, refl, sym, _∙_, ap, subst}
@@ -130,4 +130,29 @@ module _ (p : Pool) (shaped : Shaped p) (rank : ℕ → ℕ) (ranked : Ranked p 
         subst (λ t. Each (Falls (forest p) rank (rank e)) (leaves t)) (sym (w .1))
         (each-member (Falls (forest p) rank (rank e)) (leaves (tree p r))
         (λ l m. leaf-falls e (w .0) l m (member-each (OfNode p) (leaves (tree p r)) (of-node p shaped r (shaped .rooted e (w .0))) l m)));
+  }
+
+-- AND ITS RANKS ARE THE POOL'S
+module _ (p : Pool) (acyclic : Acyclic (forest p)) where
+  abbrev rankOf : ℕ → ℕ
+  rankOf = acyclic .rank
+
+  leads-down : (m : ℕ) (w : Placed) (t : ℕ) → leadsTo [] w ≡ some t → Falls (forest p) rankOf m w → rankOf t < m
+  leads-down m (Leaf.cell RowKind.cm i a at n) t q f = absurd (Option·none-ne-some t q)
+  leads-down m (Leaf.cell RowKind.const i a at n) t q f = absurd (Option·none-ne-some t q)
+  leads-down m (Leaf.cell RowKind.q i a at n) t q f = absurd (Option·none-ne-some t q)
+  leads-down m (Leaf.exp i a at n) t q f = subst (λ j. rankOf j < m) (Option·some-injective _ _ q) (f .0)
+  leads-down m (Leaf.number l at n) t q f = absurd (Option·none-ne-some t q)
+  leads-down m (Leaf.flat k i at n) t q f = absurd (Option·none-ne-some t q)
+  leads-down m (Leaf.x k at n) t q f = absurd (Option·none-ne-some t q)
+
+  pub acyclic-ranked : Ranked p [] (acyclic .rank)
+  acyclic-ranked = record {
+    below = λ e h. let x = forest-has p e h in subst (λ n. rankOf e < n) (forest-size p) (acyclic .below e (x .0) (x .1));
+    falls = λ e t d.
+        let x = forest-has p e (d .source) in
+        let l = leaves (tree p (rootOf p e)) in
+        let f : Each (Falls (forest p) rankOf (rankOf e)) l =
+        subst (λ y. Each (Falls (forest p) rankOf (rankOf e)) (leaves y)) (forest-at p e (x .0) (x .1) .1) (acyclic .falls e (x .0) (x .1)) in
+        leads-down (rankOf e) (d .leaf) t (d .leads) (member-each (Falls (forest p) rankOf (rankOf e)) l f (d .leaf) (d .stands));
   }
