@@ -1,14 +1,13 @@
 -- Building: the first, i and last lists, and the context after them (build_code).
 -- Assumes nothing: these are definitions.
-use Prim.Native.Nat.{ℕ, zero, suc}
-use mathlib.Core.Bool.{Bool, true, false, not, _&&_, _||_, cond}
+use Prim.Native.Nat.{ℕ, suc}
+use mathlib.Core.Bool.{Bool, false, not, _&&_, _||_, cond}
 use mathlib.Core.Option.{Option, none, some}
 use mathlib.Core.List.{List, [], _∷_, _++_}
 use lib.Dec.{eqb, ltb}
 use Rattle.meaning.specs.Refusals.{Answer, done, _then_}
 use Rattle.meaning.specs.Trees.{Expression, Forest, nth}
 use Rattle.meaning.specs.Steps.{Step}
-use Rattle.meaning.specs.Order.{Marks}
 use Rattle.meaning.specs.Generation.{Block, State, start, Request, isBlock, serveAll}
 
 pub record Segment : Type 0 where

@@ -1,11 +1,10 @@
 -- DEMAND 3, before fixing: the statement. Its proof stands in Proved.antt.
 -- Assumes nothing: these are definitions.
-use Prim.Native.Nat.{ℕ, zero, suc, _+_, _<_}
+use Prim.Native.Nat.{ℕ, _+_, _<_}
 use mathlib.Core.Path.{_≡_}
-use mathlib.Core.Option.{Option, none, some}
+use mathlib.Core.Option.{none, some}
 use mathlib.Core.List.{List, [], _∷_}
-use mathlib.Core.Logic.{_⊎_}
-use Rattle.meaning.specs.Refusals.{Answer, done}
+use Rattle.meaning.specs.Refusals.{done}
 use Rattle.meaning.specs.Trees.{RowKind, FlatKind, Leaf, Expression, Forest, Acyclic, nth, Placed, _at_, leaves, Each, Member, upTo}
 use Rattle.meaning.specs.Steps.{Kind, Cell, place, Ref, StepOp, Step, expCell}
 use Rattle.meaning.specs.Values.{Algebra, Given, Value, value}

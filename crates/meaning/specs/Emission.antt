@@ -1,9 +1,9 @@
 -- The steps of one tree (eval_exp), and the block of one expression at one row.
 -- Assumes nothing: these are definitions.
 use Prim.Native.Nat.{ℕ, suc, _+_}
-use mathlib.Core.Bool.{Bool, true, false}
+use mathlib.Core.Bool.{false}
 use mathlib.Core.List.{List, [], _∷_, _++_}
-use Rattle.meaning.specs.Trees.{Lit, lit, Op, OpC, Leaf, Expr}
+use Rattle.meaning.specs.Trees.{lit, Op, Leaf, Expr}
 use Rattle.meaning.specs.Steps.{Kind, Cell, Ref, StepOp, Step, step, tmpRef, expCell}
 use Rattle.meaning.specs.Values.{opc}
 

@@ -3,13 +3,12 @@
 use Prim.Native.Nat.{ℕ}
 use mathlib.Core.Path.{_≡_, refl}
 use mathlib.Core.Bool.{Bool, true, false}
-use mathlib.Core.Option.{Option, none, some}
+use mathlib.Core.Option.{none}
 use mathlib.Core.List.{List, [], _∷_}
 use Rattle.meaning.specs.Refusals.{Answer, done, _then_}
-use Rattle.meaning.specs.Trees.{Lit, lit, RowKind, Op, Leaf, Expr, Expression, Each}
+use Rattle.meaning.specs.Trees.{lit, RowKind, Op, Leaf, Expr, Each}
 use Rattle.meaning.specs.Steps.{Kind, Cell, Ref, StepOp, Step, step, tmpRef, expCell}
-use Rattle.meaning.specs.Generation.{Request}
-use Rattle.meaning.specs.Building.{Segment, whole}
+use Rattle.meaning.specs.Building.{whole}
 
 -- one expression, requested plain: its tree, is it fused, the first list, the counter
 pub record Example : Type 0 where

@@ -1,12 +1,12 @@
 -- Requests: blocks, result copies, and refusals 3, 5, 7, 8.
 -- Assumes nothing: these are definitions.
 use Prim.Native.Nat.{ℕ, zero, suc}
-use mathlib.Core.Bool.{Bool, true, false, _&&_, cond}
+use mathlib.Core.Bool.{Bool, _&&_, cond}
 use mathlib.Core.Option.{Option, none, some}
 use mathlib.Core.List.{List, [], _∷_, _++_}
-use lib.Dec.{eqb, ltb}
+use lib.Dec.{eqb}
 use Rattle.meaning.specs.Refusals.{Refusal, Answer, done, refused, _then_}
-use Rattle.meaning.specs.Trees.{Expr, Expression, Forest, nth}
+use Rattle.meaning.specs.Trees.{Expression, Forest, nth}
 use Rattle.meaning.specs.Steps.{Kind, Cell, Ref, StepOp, Step, step, expCell}
 use Rattle.meaning.specs.Emission.{Emitted, emit, blockSteps}
 use Rattle.meaning.specs.Order.{Marks, unmarked, Job, Asked, asked, there, ask}

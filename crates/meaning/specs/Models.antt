@@ -1,8 +1,8 @@
 -- The algebras of demand 3: the integers, and the numbers modulo n.
 -- Assumes nothing.
 use Prim.Native.Nat.{ℕ, _+_, _*_, _-_, _%_}
-use mathlib.Core.Path.{_≡_, refl, _∙_, ap}
-use mathlib.Core.Bool.{Bool, true, false}
+use mathlib.Core.Path.{_∙_, ap}
+use mathlib.Core.Bool.{true, false}
 use native.Mathlib.Nat.{add-comm, zero-add, zero-mod}
 use lib.IntN as Z
 use lib.IntN.{ℤ, pos, negℤ, _+ℤ_, _*ℤ_, _-ℤ_}

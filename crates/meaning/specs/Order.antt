@@ -7,7 +7,7 @@ use mathlib.Core.List.{List, [], _∷_, _++_}
 use lib.ListN.{length}
 use lib.Dec.{eqb, ltb}
 use Rattle.meaning.specs.Refusals.{Refusal, Answer, done, refused, _then_}
-use Rattle.meaning.specs.Trees.{Leaf, Expr, Expression, Forest, nth, Placed, _at_, leaves}
+use Rattle.meaning.specs.Trees.{Leaf, Expr, Forest, nth, Placed, _at_, leaves}
 use Rattle.meaning.specs.Fusing.{fuse}
 
 -- a mark per row and expression

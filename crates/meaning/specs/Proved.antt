@@ -1,22 +1,18 @@
 -- DEMAND 3, before fixing: proved, over every algebra and so over the integers and modulo every number from 2 up.
 -- Assumes nothing.
-use Prim.Native.Nat.{ℕ, _+_, _<_, _≤_}
-use mathlib.Core.Path.{_≡_, refl, sym, _∙_}
-use mathlib.Core.Option.{Option, none, some}
-use mathlib.Core.List.{List, [], _∷_}
-use Rattle.meaning.specs.Refusals.{done}
-use Rattle.meaning.specs.Trees.{RowKind, FlatKind, Leaf, Expression, Forest, Acyclic, nth, Placed, _at_, leaves, Each}
+use Prim.Native.Nat.{ℕ, _+_, _≤_}
+use mathlib.Core.Path.{sym, _∙_}
+use Rattle.meaning.specs.Trees.{RowKind, Leaf, Placed, _at_, leaves, Each}
 use Rattle.meaning.specs.Values.{Algebra, Given}
-use Rattle.meaning.specs.Running.{Store}
-use Rattle.meaning.specs.Generation.{State, start, Request}
+use Rattle.meaning.specs.Generation.{start}
 use Rattle.meaning.specs.Building.{every}
 use Rattle.meaning.specs.Models.{integers, modulo}
-use Rattle.meaning.specs.Demand3.{PlainLeaf, Throughout, AllGiven, NoResult, HeldFor, ValueFor, Computes, Demand3, Fed, Demand3Fed}
+use Rattle.meaning.specs.Demand3.{PlainLeaf, AllGiven, HeldFor, ValueFor, Demand3, Fed, Demand3Fed}
 use Rattle.meaning.specs.Laws.Tests.{each-map}
 use Rattle.meaning.specs.Laws.Early.{runs-in-order}
 use Rattle.meaning.specs.Laws.Value.{value-is}
-use Rattle.meaning.specs.Laws.Blocks.{Inv, start-inv}
-use Rattle.meaning.specs.Laws.Requests.{MarkedFor, ServedAll, serveAll-good}
+use Rattle.meaning.specs.Laws.Blocks.{start-inv}
+use Rattle.meaning.specs.Laws.Requests.{MarkedFor, serveAll-good}
 
 pub demand3-fed : (𝓐 : Algebra) → Demand3Fed 𝓐
 demand3-fed 𝓐 rows G E acyclic fed qs plain st h =

@@ -1,7 +1,7 @@
 -- Document 01's refusals, each with its number, and an answer that is a value or a refusal with the node to blame.
 -- Assumes nothing: these are definitions.
 use Prim.Native.Nat.{ℕ}
-use mathlib.Core.Option.{Option, none, some}
+use mathlib.Core.Option.{Option}
 
 pub data Refusal : Type 0 where
   malformed : Refusal

@@ -1,10 +1,9 @@
 -- Running a list from top to bottom: any list, not only a generated one.
 -- Assumes nothing: these are definitions.
-use Prim.Native.Nat.{ℕ}
 use mathlib.Core.Bool.{Bool, true, false, cond}
 use mathlib.Core.Option.{Option, none, some}
 use mathlib.Core.List.{List, [], _∷_}
-use Rattle.meaning.specs.Trees.{Lit, RowKind, Leaf}
+use Rattle.meaning.specs.Trees.{RowKind}
 use Rattle.meaning.specs.Steps.{Kind, Cell, same, place, Ref, StepOp, Step}
 use Rattle.meaning.specs.Values.{Algebra, Given, bind}
 

@@ -3,12 +3,12 @@
 use Prim.Native.Nat.{ℕ}
 use mathlib.Core.Path.{_≡_, refl}
 use mathlib.Core.Bool.{Bool, true, false}
-use mathlib.Core.Option.{Option, none, some}
+use mathlib.Core.Option.{none}
 use mathlib.Core.List.{List, [], _∷_}
 use Rattle.meaning.specs.Refusals.{Answer, done, _then_}
 use Rattle.meaning.specs.Trees.{RowKind, Op, Leaf, Expr, Expression, Forest}
 use Rattle.meaning.specs.Steps.{Kind, Cell, Ref, StepOp, Step, step, tmpRef, expCell}
-use Rattle.meaning.specs.Generation.{State, start, Request, serveAll}
+use Rattle.meaning.specs.Generation.{start, Request, serveAll}
 use Rattle.meaning.specs.Building.{Segment, segment, afterBuild, whole}
 
 abbrev cm : ℕ → Expr

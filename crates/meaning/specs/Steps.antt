@@ -1,10 +1,10 @@
 -- What is emitted: cells, references, steps. p, dim, tree_pos and exp_id are decorations of a reference that running never looks at.
 -- Assumes nothing: these are definitions.
 use Prim.Native.Nat.{ℕ}
-use mathlib.Core.Bool.{Bool, true, false, _&&_, cond}
-use mathlib.Core.List.{List, [], _∷_}
+use mathlib.Core.Bool.{Bool, _&&_}
+use mathlib.Core.List.{List}
 use lib.Dec.{eqb}
-use Rattle.meaning.specs.Trees.{Lit, RowKind, FlatKind, XKind, Op, OpC}
+use Rattle.meaning.specs.Trees.{Lit, RowKind, FlatKind, XKind}
 
 -- the kinds that steps neither read nor write where a list is run
 pub data BareKind : Type 0 where

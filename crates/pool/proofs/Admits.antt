@@ -1,18 +1,17 @@
 -- From the shape and the ranks to the verdict.
 -- Assumes nothing.
-use Prim.Native.Nat.{ℕ, _<_, _≤_}
+use Prim.Native.Nat.{ℕ}
 use mathlib.Core.Path.{_≡_, refl, sym, _∙_, ap, subst}
 use mathlib.Core.Bool.{Bool, true, false}
-use mathlib.Core.Option.{Option, none, some}
+use mathlib.Core.Option.{Option}
 use mathlib.Core.List.{List}
-use mathlib.Core.Logic.{_⊎_, inl, inr, ⊎-elim}
+use mathlib.Core.Logic.{inl, inr, ⊎-elim}
 use native.Mathlib.Omega.{arith}
-use lib.ListN.{replicate}
 use Rattle.meaning.specs.Refusals.{Refusal, Answer, done, refused}
 use Rattle.meaning.specs.Laws.Tests.{true-false, done-not-refused}
 use Rattle.pool.specs.Pool.{Pool}
 use Rattle.pool.specs.Shaped.{Shaped}
-use Rattle.pool.specs.Admission.{shape, ClosedWalk, Ranked}
+use Rattle.pool.specs.Admission.{shape, Ranked}
 use Rattle.pool.specs.Tabled.{Tables, tabled}
 use Rattle.pool.specs.Ranking.{Starts, rankIn, Outcome}
 use Rattle.pool.specs.Admitting.{Fits, Admits, bare, verdictSays}

@@ -1,23 +1,21 @@
 -- The loop over all expressions: those before e are ranked and none is being followed.
 -- Assumes nothing.
-use Prim.Native.Nat.{ℕ, zero, suc, _+_, _-_, _<_, _≤_}
-use mathlib.Core.Path.{_≡_, refl, sym, _∙_, ap, subst}
-use mathlib.Core.Bool.{Bool, true, false, cond}
-use mathlib.Core.List.{List, [], _∷_}
-use mathlib.Core.Logic.{_⊎_, inl, inr, ⊎-elim}
+use Prim.Native.Nat.{ℕ, zero, suc, _+_, _<_, _≤_}
+use mathlib.Core.Path.{_≡_, refl, sym, ap, subst}
+use mathlib.Core.List.{List}
+use mathlib.Core.Logic.{⊎-elim}
 use native.Mathlib.Omega.{arith}
 use native.Mathlib.Nat.{eq-or-lt-of-le}
-use lib.ListN.{length, getD, replicate, length-replicate, getD-replicate}
-use lib.Dec.{ltb}
+use lib.ListN.{getD, replicate, length-replicate}
 use Rattle.meaning.specs.Trees.{leaves}
 use Rattle.pool.specs.Pool.{Pool, rootOf}
 use Rattle.pool.specs.Trees.{tree}
-use Rattle.pool.specs.Admission.{leadsTo, Edge, ClosedWalk, Ranked}
+use Rattle.pool.specs.Admission.{leadsTo, Ranked}
 use Rattle.pool.specs.Tabled.{Tables, tabled}
-use Rattle.pool.specs.Ranking.{countBelow, pending, Sound, State, AsksVisit, Ranks, Gives, cycleFound, Starts, rankIn, Outcome}
+use Rattle.pool.specs.Ranking.{countBelow, pending, State, AsksVisit, Gives, cycleFound, Starts, rankIn}
 use Rattle.pool.specs.Laws.Members.{member-each}
 use Rattle.pool.specs.Laws.Tabled.{expression-count}
-use Rattle.pool.proofs.Ranks.{later-ranked, later-followed, ranked-not, cycle-is}
+use Rattle.pool.proofs.Ranks.{later-ranked, later-followed, ranked-not}
 
 -- a table of ranks in which nothing is reached
 pub zero-at : (n i : ℕ) → getD {A = ℕ} (replicate n 0) i 0 ≡ 0

@@ -2,7 +2,7 @@
 -- Assumes nothing.
 use Prim.Native.Nat.{ℕ, zero, suc, _+_, _*_, _<_, _≤_}
 use mathlib.Core.Path.{_≡_, refl, sym, _∙_, ap, subst}
-use mathlib.Core.Option.{Option, none, some}
+use mathlib.Core.Option.{none, some}
 use mathlib.Core.List.{List, [], _∷_}
 use mathlib.Core.Logic.{_⊎_, inl, inr, ⊎-elim, _↔_}
 use native.Mathlib.Omega.{arith}
@@ -13,7 +13,6 @@ use Rattle.frames.specs.declared.node.Node.{Node}
 use Rattle.frames.specs.Tables.{kindIn, idIn, countIn, nodeIn}
 use Rattle.pool.specs.Words.{c0In, c1In, c2In}
 use Rattle.kinds.specs.KindBytes as kind
-use Rattle.kinds.specs.Kinds.{childCount}
 use Rattle.pool.specs.Pool.{Pool, node, children}
 use Rattle.pool.specs.Tabled.{Tables, tabled}
 use Rattle.pool.specs.Ranking.{zeros, Later, Leads, State, Follows, AsksVisit, AsksWalk, Ranks, Gives, cycleFound}

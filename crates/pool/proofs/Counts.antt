@@ -1,13 +1,13 @@
 -- Laws of counting what is pending and what is not reached in a table of ranks, over plain variables.
 -- Assumes nothing.
 use Prim.Native.Nat.{ℕ, zero, suc, _+_, _<_, _≤_}
-use mathlib.Core.Path.{_≡_, refl, sym, _∙_, ap, subst}
+use mathlib.Core.Path.{_≡_, refl, sym, _∙_, ap}
 use mathlib.Core.Bool.{Bool, true, false, cond}
 use mathlib.Core.List.{List, [], _∷_}
 use mathlib.Core.Logic.{_⊎_, inl, inr, ⊎-elim}
 use native.Mathlib.Omega.{arith}
 use native.Mathlib.Nat.{eq-or-lt-of-le, not-suc-le-zero, le-of-suc-le-suc}
-use lib.ListN.{length, getD, set, length-set}
+use lib.ListN.{length, getD, set}
 use Rattle.meaning.specs.Laws.Tests.{true-false}
 use Rattle.pool.specs.Ranking.{countBelow, zeros, Later}
 

@@ -1,26 +1,24 @@
 -- Where the leaves of a tree lead, by the kind and the children of its node, over plain variables.
 -- Assumes nothing.
-use Prim.Native.Nat.{ℕ, zero, suc, _+_, _<_, _≤_}
+use Prim.Native.Nat.{ℕ, zero, suc, _<_, _≤_}
 use mathlib.Core.Path.{_≡_, refl, sym, _∙_, ap, subst}
 use mathlib.Core.Bool.{Bool, true, false, cond}
-use mathlib.Core.Option.{Option, none, some, Option·none-ne-some, Option·some-injective}
+use mathlib.Core.Option.{none, some, Option·none-ne-some, Option·some-injective}
 use mathlib.Core.List.{List, [], _∷_}
-use mathlib.Core.Logic.{_⊎_, inl, inr, ⊎-elim, _↔_}
+use mathlib.Core.Logic.{inl, inr, _↔_}
 use native.Mathlib.Omega.{arith}
-use native.Mathlib.Nat.{not-suc-le-zero, le-of-suc-le-suc}
-use lib.ListN.{length, getD}
+use lib.ListN.{length}
 use lib.Dec.{eqb}
 use borrow.Author.Tests.{ne-eqb}
-use Rattle.meaning.specs.Trees.{RowKind, FlatKind, XKind, Leaf, Expr, nth, Placed, _at_, leaves, Each, Member}
+use Rattle.meaning.specs.Trees.{RowKind, Leaf, Expr, nth, Placed, _at_, leaves, Each, Member}
 use Rattle.meaning.specs.Laws.Tests.{each-map}
 use Rattle.frames.specs.declared.node.Node.{Node}
 use Rattle.kinds.specs.KindBytes as kind
 use Rattle.kinds.specs.Kinds.{childCount}
-use Rattle.pool.specs.Pool.{Pool, node, rootOf, children}
-use Rattle.pool.specs.Trees.{leafOf, literalOf, Class, leafy, class, tree}
+use Rattle.pool.specs.Pool.{Pool, node, children}
+use Rattle.pool.specs.Trees.{leafOf, Class, leafy, class, tree}
 use Rattle.pool.specs.Shaped.{Shaped}
 use Rattle.pool.specs.Admission.{leadsTo}
-use Rattle.pool.specs.Laws.Members.{each-member, member-each}
 use Rattle.pool.specs.Laws.Trees.{arity, arity-is, class-leafy, leaves-under, leaf-is}
 use Rattle.pool.specs.Laws.Walks.{OfNode, of-node}
 use Rattle.pool.specs.Laws.Forest.{exp-node}

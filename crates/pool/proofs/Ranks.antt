@@ -2,27 +2,26 @@
 -- Assumes nothing.
 use Prim.Native.Nat.{ℕ, zero, suc, _+_, _*_, _<_, _≤_}
 use mathlib.Core.Path.{_≡_, refl, sym, _∙_, ap, subst}
-use mathlib.Core.Bool.{Bool, true, false, cond}
-use mathlib.Core.Option.{Option, none, some}
-use mathlib.Core.List.{List, [], _∷_}
-use mathlib.Core.Logic.{_⊎_, inl, inr, ⊎-elim, _↔_}
+use mathlib.Core.Bool.{Bool, true, false}
+use mathlib.Core.Option.{some}
+use mathlib.Core.List.{List}
+use mathlib.Core.Logic.{_⊎_, inl, inr, ⊎-elim}
 use native.Mathlib.Omega.{arith}
 use lib.ListN.{length, getD, set, length-set}
 use lib.Seq.{getD-set-same, getD-set-other}
-use lib.Dec.{eqb, ltb}
+use lib.Dec.{eqb}
 use borrow.Author.Tests.{lt-ltb, le-ltb, eqb-true, eqb-false}
-use Rattle.meaning.specs.Trees.{Placed, leaves, Each, Member}
+use Rattle.meaning.specs.Trees.{Placed, leaves, Member}
 use Rattle.meaning.specs.Laws.Tests.{each-both}
 use Rattle.pool.specs.Words.{rootIn}
 use Rattle.pool.specs.Pool.{Pool, rootOf}
 use Rattle.pool.specs.Trees.{tree}
-use Rattle.pool.specs.Shaped.{Shaped}
 use Rattle.pool.specs.Admission.{leadsTo, Edge, Walk, ClosedWalk}
 use Rattle.pool.specs.Tabled.{Tables, tabled}
-use Rattle.pool.specs.Ranking.{cycleFound, countBelow, pending, zeros, Later, P, Leads, Sound, State, Follows, AsksVisit, AsksWalk, Ranks, Gives}
-use Rattle.pool.specs.Laws.Members.{each-member, member-each}
+use Rattle.pool.specs.Ranking.{cycleFound, countBelow, pending, zeros, Later, Leads, Sound, State, Follows, AsksVisit, AsksWalk, Ranks, Gives}
+use Rattle.pool.specs.Laws.Members.{each-member}
 use Rattle.pool.specs.Laws.Tabled.{node-count, expression-count, root-at}
-use Rattle.pool.proofs.Counts.{zeros-set, zeros-later, count-same, count-less, count-some}
+use Rattle.pool.proofs.Counts.{zeros-set, count-same, count-less}
 use Rattle.pool.proofs.Leads.{leads-map, all-there}
 
 -- the table of ranks with one entry changed

@@ -1,23 +1,23 @@
 -- The shape of the pool that stands in tables, from what the tests on the tables found.
 -- Assumes nothing.
 use Prim.Native.Nat.{ℕ, zero, suc, _+_, _<_, _≤_, min}
-use mathlib.Core.Path.{_≡_, refl, sym, _∙_, ap, ap₂, subst}
-use mathlib.Core.Bool.{Bool, true, false, not, _&&_, cond}
-use mathlib.Core.Option.{Option, none, some}
+use mathlib.Core.Path.{_≡_, refl, sym, _∙_, ap, ap₂}
+use mathlib.Core.Bool.{Bool, true, false, not, _&&_}
+use mathlib.Core.Option.{none, some}
 use mathlib.Core.List.{List, [], _∷_, _++_, append-assoc, append-nil}
 use native.Mathlib.Omega.{arith}
-use lib.ListN.{length, getD, replicate, length-replicate}
+use lib.ListN.{length, replicate, length-replicate}
 use lib.Dec.{eqb, leb}
 use borrow.Author.Tests.{le-leb, lt-leb, leb-true, leb-false}
-use Rattle.meaning.specs.Refusals.{Refusal, Answer, done, refused, _then_}
+use Rattle.meaning.specs.Refusals.{Refusal, done, refused}
 use Rattle.frames.specs.declared.node.Node.{Node}
 use Rattle.frames.specs.declared.rest.Expression.{Expression}
 use Rattle.frames.specs.Tables.{nodeIn, expressionIn, first as firstOf}
 use Rattle.pool.specs.Words.{rootIn}
 use Rattle.kinds.specs.KindBytes as kind
 use Rattle.kinds.specs.Kinds.{childCount}
-use Rattle.pool.specs.Pool.{Pool, node, rootOf, children, childUses, rootUses, uses, times}
-use Rattle.pool.specs.Admission.{firstFrom, first, someFrom, wrongCount, lateChild, usedTwice, lostLeaf, lostRoot, unless, shape}
+use Rattle.pool.specs.Pool.{Pool, children, childUses, rootUses, uses, times}
+use Rattle.pool.specs.Admission.{firstFrom, first, someFrom, wrongCount, lateChild, usedTwice, lostLeaf, lostRoot, shape}
 use Rattle.pool.specs.Tabled.{Tables, tabled, childrenIn}
 use Rattle.pool.specs.Shapes.{wrongIn, lateIn, twiceIn, lostIn, lostRootIn, childUsesIn, rootUsesIn, Tallied, Tallies}
 use Rattle.pool.specs.Laws.Tabled.{node-count, expression-count, node-at, root-at}

@@ -5,7 +5,7 @@ use mathlib.Core.Path.{_≡_, refl, sym, _∙_, ap, subst}
 use mathlib.Core.Bool.{Bool, true, false, cond}
 use mathlib.Core.List.{List, [], _∷_, _++_, append-assoc, append-nil}
 use native.Mathlib.Omega.{arith}
-use lib.ListN.{length, getD, set, length-set}
+use lib.ListN.{getD, set, length-set}
 use lib.Seq.{getD-set-same, getD-set-other}
 use lib.Dec.{eqb}
 use native.Mathlib.Numerals.{add-one}
@@ -15,7 +15,7 @@ use Rattle.frames.specs.Tables.{countIn}
 use Rattle.pool.specs.Words.{c0In, c1In, c2In, rootIn}
 use Rattle.pool.specs.Pool.{times}
 use Rattle.pool.specs.Tabled.{childrenIn}
-use Rattle.pool.specs.Shapes.{Tallied, Tallies, childUsesIn, rootUsesIn}
+use Rattle.pool.specs.Shapes.{Tallies, childUsesIn, rootUsesIn}
 
 pub times-append : (k : ℕ) (xs ys : List ℕ) → times k (xs ++ ys) ≡ times k xs + times k ys
 times-append k [] ys = omega arith

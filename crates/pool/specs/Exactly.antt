@@ -1,12 +1,12 @@
 -- REFUSALS 2, 3 AND 4 OF A POOL, EACH EXACTLY WHEN its row's condition holds and no earlier one does, and 0; only one answer fits the verdict.
 -- Assumes nothing.
-use Prim.Native.Nat.{ℕ, _<_, _≤_}
-use mathlib.Core.Path.{_≡_, refl, sym, _∙_, ap, subst}
-use mathlib.Core.Option.{Option, none, some}
+use Prim.Native.Nat.{ℕ}
+use mathlib.Core.Path.{_≡_, refl, sym, _∙_, ap}
+use mathlib.Core.Option.{none, some}
 use mathlib.Core.List.{List, []}
-use mathlib.Core.Logic.{_⊎_, inl, inr, ⊎-elim, _↔_}
+use mathlib.Core.Logic.{_⊎_, inl, inr, _↔_}
 use native.Mathlib.Omega.{arith}
-use Rattle.meaning.specs.Refusals.{Refusal, number, Answer, done, refused, answerNo}
+use Rattle.meaning.specs.Refusals.{Refusal, Answer, done, refused, answerNo}
 use Rattle.meaning.specs.Trees.{Acyclic}
 use Rattle.pool.specs.Pool.{Pool}
 use Rattle.pool.specs.Trees.{forest}

@@ -1,16 +1,16 @@
 -- Ranking expressions from leaf to leaf, depth first: what the two functions that call each other ask and give.
 -- A rank table holds for each expression 0 (not reached), 1 (its leaves are being followed), or its rank and 2.
 -- Assumes nothing: these are definitions.
-use Prim.Native.Nat.{ℕ, zero, suc, _+_, _-_, _*_, _<_, _≤_}
+use Prim.Native.Nat.{ℕ, zero, suc, _+_, _-_, _<_, _≤_}
 use mathlib.Core.Path.{_≡_}
 use mathlib.Core.Bool.{Bool, true, false, cond}
-use mathlib.Core.Option.{Option, some}
+use mathlib.Core.Option.{some}
 use mathlib.Core.List.{List, [], _∷_}
 use mathlib.Core.Logic.{_⊎_}
 use lib.ListN.{length, getD}
 use lib.Dec.{ltb}
 use Rattle.frames.specs.Order.{nodeLimit, expressionLimit}
-use Rattle.meaning.specs.Trees.{Placed, leaves, Each, Member}
+use Rattle.meaning.specs.Trees.{leaves, Each, Member}
 use Rattle.pool.specs.Pool.{Pool, rootOf}
 use Rattle.pool.specs.Trees.{tree}
 use Rattle.pool.specs.Shaped.{Shaped}

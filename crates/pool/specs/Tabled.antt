@@ -1,10 +1,10 @@
 -- The pool that stands in tables, with its counts.
 -- Assumes nothing: these are definitions.
-use Prim.Native.Nat.{ℕ, zero, suc}
-use mathlib.Core.List.{List, [], _∷_, _++_}
+use Prim.Native.Nat.{ℕ}
+use mathlib.Core.List.{List, [], _∷_}
 use Rattle.meaning.specs.Trees.{upTo}
 use Rattle.frames.specs.Tables.{countIn, nodeIn, expressionIn, first as firstOf}
-use Rattle.pool.specs.Words.{c0In, c1In, c2In, rootIn}
+use Rattle.pool.specs.Words.{c0In, c1In, c2In}
 use Rattle.pool.specs.Pool.{Pool}
 
 -- the tables of nodes, of literals and of expressions, and how many nodes and expressions stand in them

@@ -1,7 +1,7 @@
 -- The tree at a node, and the forest that a pool stands for.
 -- Assumes nothing: these are definitions.
 use Prim.Native.Nat.{ℕ, zero, suc, _/_, _%_}
-use mathlib.Core.Bool.{Bool, true, false, cond}
+use mathlib.Core.Bool.{cond}
 use mathlib.Core.List.{List, [], _∷_}
 use lib.Dec.{eqb}
 use Rattle.meaning.specs.Trees.{Lit, lit, RowKind, FlatKind, XKind, Op, OpC, Leaf, Expr, Forest}

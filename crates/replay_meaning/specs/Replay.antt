@@ -1,13 +1,13 @@
 -- The definitions of `meaning` run on stored scripts, and their answers as numbers, to be compared with the original's.
 -- Assumes nothing: these are definitions.
 use Prim.Native.Nat.{ℕ, zero, suc, _+_, _*_}
-use mathlib.Core.Bool.{Bool, true, false, _&&_, cond}
-use mathlib.Core.Option.{Option, none, some}
+use mathlib.Core.Bool.{Bool, true, false, _&&_}
+use mathlib.Core.Option.{Option}
 use mathlib.Core.List.{List, [], _∷_, _++_}
 use lib.ListN.{length}
 use lib.Dec.{eqb}
-use Rattle.meaning.specs.Refusals.{Refusal, number, Answer, done, refused}
-use Rattle.meaning.specs.Trees.{Lit, lit, Expr, Expression, Forest}
+use Rattle.meaning.specs.Refusals.{number, Answer, done, refused}
+use Rattle.meaning.specs.Trees.{lit, Expr, Expression, Forest}
 use Rattle.meaning.specs.Steps.{kindNo, Cell, Ref, stepNo, Step}
 use Rattle.meaning.specs.Generation.{Block, State, start, Request, Result, serve}
 use Rattle.meaning.specs.Building.{Segment, segment, afterBuild}

@@ -1,6 +1,6 @@
 -- An operation's own step and its operands, in order: one form for every operation, and the steps of a tree by it.
 -- Assumes nothing.
-use Prim.Native.Nat.{ℕ, _+_, _-_}
+use Prim.Native.Nat.{ℕ, _+_}
 use mathlib.Core.Path.{_≡_, refl}
 use mathlib.Core.Option.{Option, some, Option·none-ne-some, Option·some-injective}
 use mathlib.Core.List.{List, [], _++_, append-assoc}

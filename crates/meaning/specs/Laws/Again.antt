@@ -1,19 +1,19 @@
 -- What was marked when blocks were last gone gets no block: a second build emits no block again for what the first marked.
 -- Assumes nothing.
 use Prim.Native.Nat.{ℕ}
-use mathlib.Core.Path.{_≡_, refl, sym, _∙_, ap, subst}
-use mathlib.Core.Bool.{Bool, true, false, _||_, cond}
+use mathlib.Core.Path.{_≡_, refl, subst}
+use mathlib.Core.Bool.{Bool, true, false, cond}
 use mathlib.Core.Option.{Option, none, some, Option·none-ne-some, Option·some-injective}
 use mathlib.Core.List.{List, [], _∷_, _++_}
 use native.Mathlib.Omega.{arith}
-use Rattle.meaning.specs.Refusals.{Answer, done, refused, _then_}
+use Rattle.meaning.specs.Refusals.{done}
 use Rattle.meaning.specs.Trees.{Expression, Forest, nth, Each}
-use Rattle.meaning.specs.Steps.{Cell, Ref, Step}
-use Rattle.meaning.specs.Order.{Marks, Job, Asked, there, ask}
-use Rattle.meaning.specs.Generation.{Block, State, Request, Result, result, makeOne, make, plainResult, adding, lastDestination, copied, isBlock, onto, before, copyInto, withBlocks, copyOut, generate, serve, serveAll}
+use Rattle.meaning.specs.Steps.{Cell, Ref}
+use Rattle.meaning.specs.Order.{Marks, Job, there, ask}
+use Rattle.meaning.specs.Generation.{Block, State, Request, Result, result, makeOne, make, plainResult, lastDestination, copied, isBlock, onto, before, copyInto, withBlocks, copyOut, generate, serve, serveAll}
 use Rattle.meaning.specs.Building.{afterBuild}
 use Rattle.meaning.specs.Laws.Tests.{true-false, not-true, then-done, done-same, each-join, each-map}
-use Rattle.meaning.specs.Laws.Jobs.{New, Gives, grown, asks}
+use Rattle.meaning.specs.Laws.Jobs.{New, grown, asks}
 
 -- marks that a build made or kept
 pub build-keeps : (rows : ℕ) (E : Forest) (st : State) (e r : ℕ) → st .marks e r ≡ true → afterBuild rows E st .marks e r ≡ true

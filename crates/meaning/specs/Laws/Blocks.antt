@@ -1,26 +1,26 @@
 -- Blocks added to a list that runs: it still runs, and each marked cell holds its expression's value.
 -- Assumes nothing.
-use Prim.Native.Nat.{ℕ, _+_, _<_}
-use mathlib.Core.Path.{_≡_, refl, sym, _∙_, ap, subst, subst₂}
+use Prim.Native.Nat.{ℕ, _+_}
+use mathlib.Core.Path.{_≡_, refl, sym, _∙_, subst₂}
 use mathlib.Core.Bool.{Bool, true, false, _&&_, _||_, cond}
-use mathlib.Core.Option.{Option, none, some, Option·some-injective}
+use mathlib.Core.Option.{none, some}
 use mathlib.Core.List.{List, [], _∷_, _++_, append-assoc, append-nil}
 use native.Mathlib.Omega.{arith}
 use lib.Dec.{eqb}
-use Rattle.meaning.specs.Trees.{Lit, RowKind, FlatKind, XKind, Leaf, Expr, Expression, Forest, nth, Placed, _at_, leaves, Each}
+use Rattle.meaning.specs.Trees.{RowKind, FlatKind, XKind, Leaf, Expr, Forest, Placed, _at_, leaves, Each}
 use Rattle.meaning.specs.Steps.{Kind, Cell, same, place, Ref, Step, expCell}
 use Rattle.meaning.specs.Values.{Algebra, Given, Has, Value}
-use Rattle.meaning.specs.Running.{Store, empty, set, before, either, read, run}
-use Rattle.meaning.specs.Emission.{leafRef, emit, blockSteps}
-use Rattle.meaning.specs.Order.{Marks, unmarked, marking, Job, asked, inRows}
-use Rattle.meaning.specs.Generation.{Block, Made, blockOf, makeOne, make}
+use Rattle.meaning.specs.Running.{Store, empty, set, before, read, run}
+use Rattle.meaning.specs.Emission.{emit, blockSteps}
+use Rattle.meaning.specs.Order.{Marks, unmarked, marking, Job, asked}
+use Rattle.meaning.specs.Generation.{make}
 use Rattle.meaning.specs.Building.{every}
 use Rattle.meaning.specs.Demand3.{Throughout, Fed, Held}
 use borrow.Author.Tests.{eqb-true, ltb-true}
-use Rattle.meaning.specs.Laws.Tests.{true-false, and-left, and-right, each-both}
-use Rattle.meaning.specs.Laws.Cells.{same-refl, same-eq, same-not, exp-under}
-use Rattle.meaning.specs.Laws.Runs.{Agree, run-then}
-use Rattle.meaning.specs.Laws.Tree.{Good, Ready, Valued, planned, block-runs}
+use Rattle.meaning.specs.Laws.Tests.{true-false, and-left, and-right}
+use Rattle.meaning.specs.Laws.Cells.{same-not, exp-under}
+use Rattle.meaning.specs.Laws.Runs.{run-then}
+use Rattle.meaning.specs.Laws.Tree.{Ready, Valued, planned, block-runs}
 use Rattle.meaning.specs.Laws.Fuse.{asked-leaves, asked-value}
 use Rattle.meaning.specs.Laws.Jobs.{after, InRows, DepMarked, Fine, AllFine}
 

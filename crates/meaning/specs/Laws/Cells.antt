@@ -1,14 +1,12 @@
 -- Laws of cells: the test of sameness is equality, and which cells are no temporaries from t on.
 -- Assumes nothing.
 use Prim.Native.Nat.{ℕ, _+_, _≤_, _<_}
-use mathlib.Core.Path.{_≡_, refl, sym, _∙_, ap, subst}
-use mathlib.Core.Bool.{Bool, true, false, _&&_, cond}
-use mathlib.Core.Option.{Option, none, some, Option·getD}
-use mathlib.Core.List.{List, [], _∷_}
+use mathlib.Core.Path.{_≡_, refl, sym, _∙_, ap}
+use mathlib.Core.Bool.{true, false, cond}
 use native.Mathlib.Omega.{arith}
 use lib.Dec.{eqb}
 use Rattle.meaning.specs.Trees.{RowKind, FlatKind, XKind, Leaf}
-use Rattle.meaning.specs.Steps.{BareKind, Kind, kindNo, Cell, same, place, Ref, tmpRef, expCell}
+use Rattle.meaning.specs.Steps.{BareKind, Kind, kindNo, Cell, same, place, Ref, expCell}
 use Rattle.meaning.specs.Emission.{leafRef}
 use borrow.Author.Tests.{eqb-true}
 use Rattle.meaning.specs.Laws.Tests.{eqb-same, and-left, and-right, not-true}

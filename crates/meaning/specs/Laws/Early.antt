@@ -1,6 +1,5 @@
 -- A list that runs reads no cell without a given value before it is written.
 -- Assumes nothing.
-use Prim.Native.Nat.{ℕ, zero, suc}
 use mathlib.Core.Path.{_≡_, refl, sym, _∙_, subst}
 use mathlib.Core.Bool.{Bool, true, false, cond}
 use mathlib.Core.Option.{Option, none, some, Option·none-ne-some, Option·some-injective}
@@ -8,8 +7,8 @@ use mathlib.Core.List.{List, [], _∷_}
 use mathlib.Core.Logic.{_⊎_, inl, inr}
 use Rattle.meaning.specs.Trees.{Each, Member, upTo}
 use Rattle.meaning.specs.Steps.{Kind, Cell, same, place, Ref, StepOp, Step}
-use Rattle.meaning.specs.Values.{Algebra, Given, bind}
-use Rattle.meaning.specs.Running.{Store, empty, set, writable, write, before, either, two, three, apply, read, readAll, computes, exec, run}
+use Rattle.meaning.specs.Values.{Algebra, Given}
+use Rattle.meaning.specs.Running.{Store, empty, set, writable, write, before, either, two, three, read, readAll, computes, exec, run}
 use Rattle.meaning.specs.Demand3.{Ungiven, Written, needs, writing, NoEarlyRead}
 use Rattle.meaning.specs.Laws.Tests.{bind-some, each-map}
 use Rattle.meaning.specs.Laws.Cells.{same-eq}

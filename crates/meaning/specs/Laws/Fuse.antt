@@ -1,9 +1,9 @@
 -- Fusing changes no value, and neither adds nor drops a leaf.
 -- Assumes nothing.
 use Prim.Native.Nat.{ℕ}
-use mathlib.Core.Path.{_≡_, refl, sym, _∙_, ap, ap₂}
-use mathlib.Core.Bool.{Bool, true, false, cond}
-use mathlib.Core.List.{List, [], _∷_, _++_}
+use mathlib.Core.Path.{_≡_, refl, _∙_, ap}
+use mathlib.Core.Bool.{Bool, true, false}
+use mathlib.Core.List.{List, _++_}
 use mathlib.Core.Logic.{_↔_}
 use Rattle.meaning.specs.Trees.{Op, Expr, Forest, Placed, leaves, Each}
 use Rattle.meaning.specs.Values.{Algebra, Given, Has}

@@ -2,15 +2,14 @@
 -- Assumes nothing.
 use Prim.Native.Nat.{ℕ, zero, suc, _+_}
 use mathlib.Core.Path.{_≡_, refl, sym, _∙_, ap, subst}
-use mathlib.Core.Bool.{Bool, true, false, _&&_, _||_, cond}
+use mathlib.Core.Bool.{Bool, true, false, _&&_, cond}
 use mathlib.Core.Option.{Option, none, some}
 use mathlib.Core.List.{List, [], _∷_, _++_}
-use mathlib.Core.Logic.{_↔_}
 use native.Mathlib.Omega.{arith}
 use lib.ListN.{length}
 use lib.Dec.{eqb}
-use Rattle.meaning.specs.Refusals.{Refusal, Answer, done, refused, _then_}
-use Rattle.meaning.specs.Trees.{Leaf, Expr, Expression, Forest, nth, Placed, _at_, leaves, Each}
+use Rattle.meaning.specs.Refusals.{Refusal, Answer, done, refused}
+use Rattle.meaning.specs.Trees.{Leaf, Expression, Forest, nth, Placed, _at_, leaves, Each}
 use Rattle.meaning.specs.Order.{Marks, marking, Job, Asked, nothing, asked, there, inRows, primed, own, askLeaf, askLeaves, fresh, askBelow, ask}
 use Rattle.meaning.specs.Laws.Tests.{true-false, not-true, eqb-same, or-right, then-done, done-same, each-map, each-join}
 use Rattle.meaning.specs.Laws.Fuse.{asked-leaves}

@@ -1,16 +1,16 @@
 -- In an acyclic forest as many levels as there are expressions are enough: a request for an expression that is there is refused only for a double prime.
 -- Assumes nothing.
-use Prim.Native.Nat.{ℕ, zero, suc, _+_, _<_, _≤_}
-use mathlib.Core.Path.{_≡_, refl, sym, _∙_, ap}
+use Prim.Native.Nat.{ℕ, zero, suc, _+_, _<_}
+use mathlib.Core.Path.{_≡_, refl}
 use mathlib.Core.Bool.{Bool, true, false, cond}
-use mathlib.Core.Option.{Option, none, some}
-use mathlib.Core.List.{List, [], _∷_, _++_}
+use mathlib.Core.Option.{Option, some}
+use mathlib.Core.List.{List, [], _∷_}
 use mathlib.Core.Logic.{_⊎_, inl, inr, ⊎-elim}
 use native.Mathlib.Omega.{arith}
 use lib.ListN.{length}
 use Rattle.meaning.specs.Refusals.{Refusal, Answer, done, refused, _then_}
-use Rattle.meaning.specs.Trees.{Leaf, Expr, Expression, Forest, Falls, Acyclic, nth, Placed, _at_, leaves, Each}
-use Rattle.meaning.specs.Order.{Marks, Asked, nothing, asked, there, inRows, primed, own, askLeaf, askLeaves, fresh, askBelow, ask}
+use Rattle.meaning.specs.Trees.{Leaf, Expression, Forest, Falls, Acyclic, nth, Placed, _at_, leaves, Each}
+use Rattle.meaning.specs.Order.{Marks, Asked, nothing, asked, inRows, primed, own, askLeaf, askLeaves, fresh, askBelow, ask}
 
 -- inversion: a refusal is the first part's, or that of what follows
 pub then-refused :

@@ -5,16 +5,15 @@ use mathlib.Core.Path.{_≡_, refl, sym, _∙_, ap, subst}
 use mathlib.Core.Bool.{Bool, true, false, cond}
 use mathlib.Core.Option.{Option, none, some, Option·some-ne-none}
 use mathlib.Core.List.{List, [], _∷_, _++_, append-assoc}
-use Rattle.meaning.specs.Refusals.{Answer, done, refused, _then_}
+use Rattle.meaning.specs.Refusals.{done}
 use Rattle.meaning.specs.Trees.{Expression, Forest, nth, Each}
-use Rattle.meaning.specs.Steps.{Step}
 use Rattle.meaning.specs.Values.{Algebra, Given}
-use Rattle.meaning.specs.Order.{Marks, Asked, there, ask}
+use Rattle.meaning.specs.Order.{Asked, there, ask}
 use Rattle.meaning.specs.Generation.{Block, State, Request, Result, make, plainResult, adding, copyOut, generate, serve, serveAll}
 use Rattle.meaning.specs.Building.{every}
-use Rattle.meaning.specs.Demand3.{NoResult, Throughout, Fed, Held, HeldFor}
+use Rattle.meaning.specs.Demand3.{NoResult, Throughout, Fed}
 use Rattle.meaning.specs.Laws.Tests.{then-done, done-same}
-use Rattle.meaning.specs.Laws.Jobs.{after, Gives, grown, asks}
+use Rattle.meaning.specs.Laws.Jobs.{Gives, grown, asks}
 use Rattle.meaning.specs.Laws.Blocks.{Inv, add-blocks}
 
 pub every-append : (xs ys : List Block) → every (xs ++ ys) ≡ every xs ++ every ys

@@ -1,13 +1,12 @@
 -- Laws of running: one list after another, stores that agree but for later temporaries, one step at the end.
 -- Assumes nothing.
 use Prim.Native.Nat.{ℕ, _≤_}
-use mathlib.Core.Path.{_≡_, refl, sym, _∙_, ap}
-use mathlib.Core.Bool.{Bool, true, false, cond}
-use mathlib.Core.Option.{Option, none, some, Option·none-ne-some}
+use mathlib.Core.Path.{_≡_, refl, _∙_}
+use mathlib.Core.Option.{Option, none, some}
 use mathlib.Core.List.{List, [], _∷_, _++_}
 use Rattle.meaning.specs.Steps.{Cell, place, Ref, StepOp, Step, step}
 use Rattle.meaning.specs.Values.{Algebra, Given, bind}
-use Rattle.meaning.specs.Running.{Store, either, write, read, computes, exec, run}
+use Rattle.meaning.specs.Running.{Store, write, read, computes, exec, run}
 use Rattle.meaning.specs.Laws.Cells.{Under, under-le, Below}
 
 -- two stores agree but for temporaries from t on

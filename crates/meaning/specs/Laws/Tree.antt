@@ -1,18 +1,18 @@
 -- The lemma of one tree: running the steps of a tree changes only temporaries from t on and leaves the tree's value readable.
 -- Assumes nothing.
-use Prim.Native.Nat.{ℕ, suc, _+_, _≤_, _<_}
-use mathlib.Core.Path.{_≡_, refl, sym, _∙_, ap}
-use mathlib.Core.Bool.{Bool, true, false, cond}
-use mathlib.Core.Option.{Option, none, some}
+use Prim.Native.Nat.{ℕ, _≤_}
+use mathlib.Core.Path.{_≡_, refl, _∙_, ap}
+use mathlib.Core.Bool.{false}
+use mathlib.Core.Option.{some}
 use mathlib.Core.List.{List, [], _∷_, _++_}
 use native.Mathlib.Omega.{arith}
 use Rattle.meaning.specs.Trees.{Lit, lit, Op, OpC, Leaf, Expr, Forest, Placed, _at_, leaves, Each}
-use Rattle.meaning.specs.Steps.{Kind, Cell, place, Ref, StepOp, Step, step, tmpRef, expCell}
+use Rattle.meaning.specs.Steps.{Kind, Cell, Ref, StepOp, Step, tmpRef}
 use Rattle.meaning.specs.Values.{Algebra, Given, op, opc, Has}
 use Rattle.meaning.specs.Running.{Store, set, write, read, computes, run}
 use Rattle.meaning.specs.Emission.{leafRef, stepOp, Own, Emitted, Settled, settle, settled, emit, rootStep, blockSteps}
 use Rattle.meaning.specs.Laws.Tests.{each-left, each-right, each-map}
-use Rattle.meaning.specs.Laws.Cells.{same-refl, Under, tmp-apart, tmp-under, Below, leaf-below, below-le}
+use Rattle.meaning.specs.Laws.Cells.{same-refl, tmp-apart, tmp-under, Below, leaf-below, below-le}
 use Rattle.meaning.specs.Laws.Runs.{Agree, agree-refl, agree-trans, read-agree, run-then, run-last}
 
 -- what a tree's own step does, a leaf's being a copy

@@ -5,10 +5,9 @@ use mathlib.Core.Path.{_≡_, refl, subst}
 use mathlib.Core.Bool.{Bool, true, false, cond}
 use mathlib.Core.List.{List, [], _∷_, _++_}
 use native.Mathlib.Omega.{arith}
-use lib.ListN.{length}
-use Rattle.meaning.specs.Refusals.{Answer, done, refused, _then_}
-use Rattle.meaning.specs.Trees.{Leaf, Expression, Forest, nth, Placed, _at_, leaves, Each}
-use Rattle.meaning.specs.Order.{Marks, marking, Job, Asked, nothing, asked, there, primed, own, askLeaf, askLeaves, fresh, askBelow, ask}
+use Rattle.meaning.specs.Refusals.{Answer, done}
+use Rattle.meaning.specs.Trees.{Leaf, Forest, nth, Placed, _at_, leaves, Each}
+use Rattle.meaning.specs.Order.{Marks, Job, Asked, nothing, asked, there, primed, own, askLeaf, askLeaves, fresh, askBelow}
 use Rattle.meaning.specs.Laws.Tests.{true-false, then-done, done-same, each-map, each-join}
 
 abbrev Unfused : Job → Type 0

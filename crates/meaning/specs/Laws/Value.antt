@@ -1,14 +1,14 @@
 -- The value of an expression: a tree has at most one; the function gives just it where expressions form no cycle.
 -- Assumes nothing.
-use Prim.Native.Nat.{ℕ, zero, suc, _+_, _<_, _≤_}
+use Prim.Native.Nat.{ℕ, zero, suc, _+_, _<_}
 use mathlib.Core.Path.{_≡_, refl, sym, _∙_, ap, ap₂, subst}
 use mathlib.Core.Option.{Option, none, some, Option·none-ne-some, Option·some-injective}
-use mathlib.Core.List.{List, [], _∷_, _++_}
+use mathlib.Core.List.{_++_}
 use mathlib.Core.Logic.{_↔_}
 use native.Mathlib.Omega.{arith}
 use lib.ListN.{length}
-use Rattle.meaning.specs.Trees.{Lit, Op, OpC, Leaf, Expr, Expression, Forest, Falls, Acyclic, nth, Placed, _at_, leaves, Each}
-use Rattle.meaning.specs.Values.{Algebra, Given, op, opc, bind, Has, Value, leafValue, treeValue, expressionValue, valueBelow, value}
+use Rattle.meaning.specs.Trees.{Leaf, Expr, Expression, Forest, Falls, Acyclic, nth, leaves, Each}
+use Rattle.meaning.specs.Values.{Algebra, Given, op, opc, Has, Value, leafValue, treeValue, expressionValue, valueBelow, value}
 use Rattle.meaning.specs.Laws.Tests.{bind-some, each-left, each-right}
 
 module _ (𝓐 : Algebra) (G : Given (𝓐 .A)) (E : Forest) where

@@ -3,12 +3,12 @@
 use Prim.Native.Nat.{ℕ, zero, suc, _+_, _<_, _≤_}
 use mathlib.Core.Path.{_≡_, refl, sym, _∙_, ap}
 use mathlib.Core.Bool.{Bool, true, false, cond}
-use mathlib.Core.Option.{Option, none, some, Option·none-ne-some, Option·some-ne-none, Option·some-injective}
+use mathlib.Core.Option.{none, some, Option·none-ne-some, Option·some-ne-none, Option·some-injective}
 use mathlib.Core.Logic.{_⊎_, inl, inr, ⊎-elim}
 use native.Mathlib.Nat.{eq-or-lt-of-le}
 use native.Mathlib.Omega.{arith}
 use Rattle.meaning.specs.Laws.Tests.{true-false}
-use Rattle.pool.specs.Admission.{firstFrom, first}
+use Rattle.pool.specs.Admission.{firstFrom}
 
 -- it is found: it is in range, the test holds of it and of none before
 pub record Found (f : ℕ → Bool) (k m n : ℕ) : Type 0 where

@@ -1,16 +1,16 @@
 -- The forest of a well-shaped pool is acyclic exactly when the pool has ranks: `meaning`'s theorems speak of it.
 -- Assumes nothing.
-use Prim.Native.Nat.{ℕ, zero, suc, _+_, _<_, _≤_}
+use Prim.Native.Nat.{ℕ, zero, suc, _<_}
 use mathlib.Core.Path.{_≡_, refl, sym, _∙_, ap, subst}
 use mathlib.Core.Bool.{Bool, true, false, cond}
-use mathlib.Core.Option.{Option, none, some, Option·none-ne-some, Option·some-injective}
-use mathlib.Core.List.{List, [], _∷_, _++_}
+use mathlib.Core.Option.{Option, some, Option·none-ne-some, Option·some-injective}
+use mathlib.Core.List.{List, [], _∷_}
 use native.Mathlib.Omega.{arith}
 use native.Mathlib.Nat.{not-suc-le-zero, le-of-suc-le-suc}
 use lib.ListN.{length}
 use lib.Dec.{eqb}
 use borrow.Author.Tests.{eqb-true}
-use Rattle.meaning.specs.Trees.{RowKind, FlatKind, XKind, Leaf, Expr, Forest, Falls, Acyclic, nth, Placed, _at_, leaves, Each, Member}
+use Rattle.meaning.specs.Trees.{RowKind, FlatKind, XKind, Leaf, Falls, Acyclic, nth, Placed, _at_, leaves, Each, Member}
 use Rattle.meaning.specs.Trees as meaning
 use Rattle.frames.specs.declared.node.Node.{Node}
 use Rattle.frames.specs.declared.rest.Expression.{Expression}
@@ -18,7 +18,7 @@ use Rattle.kinds.specs.KindBytes as kind
 use Rattle.pool.specs.Pool.{Pool, node, rootOf, orElse}
 use Rattle.pool.specs.Trees.{literalOf, leafOf, tree, expressionOf, forestFrom, forest}
 use Rattle.pool.specs.Shaped.{Shaped}
-use Rattle.pool.specs.Admission.{leadsTo, Edge, Ranked}
+use Rattle.pool.specs.Admission.{leadsTo, Ranked}
 use Rattle.pool.specs.Laws.Members.{each-member, member-each}
 use Rattle.pool.specs.Laws.Walks.{skip, OfNode, of-node}
 

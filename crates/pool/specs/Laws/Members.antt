@@ -1,8 +1,8 @@
 -- What holds of each member of a list.
 -- Assumes nothing.
-use mathlib.Core.Path.{_≡_, refl, subst}
+use mathlib.Core.Path.{refl, subst}
 use mathlib.Core.List.{List, [], _∷_}
-use mathlib.Core.Logic.{_⊎_, inl, inr}
+use mathlib.Core.Logic.{inl, inr}
 use Rattle.meaning.specs.Trees.{Each, Member}
 
 pub each-member : {A : Type 0} (P : A → Type 0) (l : List A) → ((a : A) → Member a l → P a) → Each P l

@@ -1,26 +1,26 @@
 -- Refusals 2 and 3 exactly when their conditions hold, and what it says that there is none.
 -- Assumes nothing.
-use Prim.Native.Nat.{ℕ, zero, suc, _+_, _<_, _≤_}
-use mathlib.Core.Path.{_≡_, refl, sym, _∙_, ap, subst}
-use mathlib.Core.Bool.{Bool, true, false, not, _&&_, _||_, cond}
-use mathlib.Core.Option.{Option, none, some, Option·none-ne-some}
-use mathlib.Core.List.{List, [], _∷_, _++_}
-use mathlib.Core.Logic.{_⊎_, inl, inr, ⊎-elim, _↔_}
+use Prim.Native.Nat.{ℕ, _<_, _≤_}
+use mathlib.Core.Path.{_≡_, refl, subst}
+use mathlib.Core.Bool.{Bool, true, false, _&&_, _||_}
+use mathlib.Core.Option.{Option, none, some}
+use mathlib.Core.List.{List, [], _∷_}
+use mathlib.Core.Logic.{inl, inr}
 use native.Mathlib.Omega.{arith}
 use lib.ListN.{length}
 use lib.Dec.{eqb, leb}
-use borrow.Author.Tests.{eqb-true, eqb-false, leb-true, leb-false, le-leb, lt-leb, eq-eqb, ne-eqb, not-true, not-false}
-use Rattle.meaning.specs.Refusals.{Refusal, number, Answer, done, refused, answerNo, _then_}
+use borrow.Author.Tests.{eqb-true, eqb-false, leb-true, leb-false, eq-eqb, not-true, not-false}
+use Rattle.meaning.specs.Refusals.{Refusal, Answer, done, refused, _then_}
 use Rattle.meaning.specs.Trees.{Each, Member}
 use Rattle.meaning.specs.Laws.Tests.{and-left, and-right, true-false}
 use Rattle.kinds.specs.KindBytes as kind
 use Rattle.kinds.specs.Kinds.{childCount}
 use Rattle.pool.specs.Pool.{Pool, node, rootOf, children, uses, times}
-use Rattle.pool.specs.Admission.{firstFrom, first, wrongCount, someFrom, lateChild, usedTwice, lostLeaf, lostRoot, unless, shape}
+use Rattle.pool.specs.Admission.{first, wrongCount, someFrom, lateChild, usedTwice, lostLeaf, lostRoot, unless, shape}
 use Rattle.pool.specs.Shaped.{Shaped}
-use Rattle.pool.specs.Verdict.{SomeWrongCount, SomeLateChild, SomeUsedTwice, SomeLostLeaf, SomeLostRoot, SomeNotThere}
+use Rattle.pool.specs.Verdict.{SomeWrongCount, SomeNotThere}
 use Rattle.pool.specs.Laws.Members.{member-each}
-use Rattle.pool.specs.Laws.First.{Found, found-is, none-is, none-found}
+use Rattle.pool.specs.Laws.First.{found-is, none-is}
 
 -- someone below m has it
 abbrev pub Some : (ℕ → Bool) → ℕ → Type 0

@@ -1,11 +1,10 @@
 -- Laws of the pool that stands in tables: its nodes and roots are those of the words.
 -- Assumes nothing.
-use Prim.Native.Nat.{ℕ, zero, suc, _+_, _<_, _≤_}
+use Prim.Native.Nat.{ℕ, zero, suc, _<_}
 use mathlib.Core.Path.{_≡_, refl, sym, _∙_, ap, subst}
-use mathlib.Core.Option.{Option, none, some}
+use mathlib.Core.Option.{Option, some}
 use mathlib.Core.List.{List, [], _∷_, _++_}
 use mathlib.Core.Logic.{_⊎_, inl, inr}
-use native.Mathlib.Omega.{arith}
 use native.Mathlib.Nat.{eq-or-lt-of-le, not-suc-le-zero, le-of-suc-le-suc}
 use native.Mathlib.Numerals.{add-one}
 use lib.ListN.{length, length-append}
@@ -13,7 +12,7 @@ use Rattle.meaning.specs.Trees.{nth}
 use Rattle.frames.specs.Tables.{nodeIn, expressionIn, first as firstOf}
 use Rattle.pool.specs.Words.{rootIn}
 use Rattle.frames.specs.declared.rest.Expression.{Expression}
-use Rattle.pool.specs.Pool.{Pool, node, rootOf, orElse, blank}
+use Rattle.pool.specs.Pool.{node, rootOf, orElse}
 use Rattle.pool.specs.Tabled.{Tables, tabled}
 
 pub nth-before : {A : Type 0} (xs ys : List A) (i : ℕ) → i < length xs → nth (xs ++ ys) i ≡ nth xs i

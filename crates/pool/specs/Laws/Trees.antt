@@ -1,23 +1,21 @@
 -- Laws of the tree at a node of a well-shaped pool: one for each class of kinds, with the fuel hidden.
 -- Assumes nothing.
-use Prim.Native.Nat.{ℕ, zero, suc, _+_, _<_, _≤_}
+use Prim.Native.Nat.{ℕ, zero, suc, _<_}
 use mathlib.Core.Path.{_≡_, refl, sym, _∙_, ap, ap₂, subst}
-use mathlib.Core.Bool.{Bool, true, false, _&&_, cond}
-use mathlib.Core.Option.{Option, none, some}
+use mathlib.Core.Bool.{Bool, true, false}
 use mathlib.Core.List.{List, [], _∷_, _++_}
-use mathlib.Core.Logic.{_⊎_, inl, inr, ⊎-elim, _↔_}
+use mathlib.Core.Logic.{_↔_}
 use native.Mathlib.Omega.{arith}
-use native.Mathlib.Nat.{eq-or-lt-of-le}
 use lib.ListN.{length}
 use lib.Dec.{T, eqb, ltb, eqb→eq}
 use borrow.Author.Tests.{ne-eqb, ltb-true, ltb-false}
-use Rattle.meaning.specs.Trees.{Op, OpC, Leaf, Expr, Placed, _at_, leaves, Each}
+use Rattle.meaning.specs.Trees.{Op, OpC, Expr, Placed, leaves, Each}
 use Rattle.meaning.specs.Laws.Tests.{each-left, each-right, each-join, each-map}
 use Rattle.frames.specs.declared.node.Node.{Node}
 use Rattle.kinds.specs.KindBytes as kind
 use Rattle.kinds.specs.Kinds.{childCount}
 use Rattle.kinds.specs.Range.{within, within-above, passes, pass}
-use Rattle.pool.specs.Pool.{Pool, node, rootOf, children}
+use Rattle.pool.specs.Pool.{Pool, node, children}
 use Rattle.pool.specs.Trees.{leafOf, literalOf, Class, binary, fused, constant, negation, leafy, class, grown, treeBelow, tree}
 use Rattle.pool.specs.Shaped.{Shaped}
 

@@ -1,26 +1,20 @@
 -- Laws of walks: ranks that fall leave no closed walk, and make the forest acyclic.
 -- Assumes nothing.
-use Prim.Native.Nat.{ℕ, zero, suc, _+_, _<_, _≤_}
-use mathlib.Core.Path.{_≡_, refl, sym, _∙_, ap, subst}
+use Prim.Native.Nat.{ℕ, zero, suc, _<_}
+use mathlib.Core.Path.{_≡_, refl}
 use mathlib.Core.Bool.{Bool, true, false, cond}
-use mathlib.Core.Option.{Option, none, some, Option·none-ne-some, Option·some-injective}
-use mathlib.Core.List.{List, [], _∷_, _++_}
-use mathlib.Core.Logic.{_⊎_, inl, inr, ⊎-elim}
+use mathlib.Core.List.{List}
+use mathlib.Core.Logic.{_⊎_, inl, inr}
 use native.Mathlib.Omega.{arith}
 use lib.ListN.{length}
-use lib.Dec.{eqb}
-use borrow.Author.Tests.{eqb-true}
-use Rattle.meaning.specs.Trees.{RowKind, FlatKind, XKind, Leaf, Expr, Forest, Falls, Acyclic, nth, Placed, _at_, leaves, Each, Member}
-use Rattle.meaning.specs.Trees as meaning
-use Rattle.frames.specs.declared.node.Node.{Node}
-use Rattle.frames.specs.declared.rest.Expression.{Expression}
+use Rattle.meaning.specs.Trees.{Placed, _at_, leaves, Each}
 use Rattle.kinds.specs.KindBytes as kind
-use Rattle.pool.specs.Pool.{Pool, node, rootOf, orElse, children}
-use Rattle.pool.specs.Trees.{leafOf, Class, leafy, class, tree, expressionOf, forestFrom, forest}
+use Rattle.pool.specs.Pool.{Pool, node, children}
+use Rattle.pool.specs.Trees.{leafOf, Class, leafy, class, tree}
 use Rattle.pool.specs.Shaped.{Shaped}
-use Rattle.pool.specs.Admission.{leadsTo, Edge, Walk, ClosedWalk, Ranked}
+use Rattle.pool.specs.Admission.{Walk, ClosedWalk, Ranked}
 use Rattle.pool.specs.Laws.Members.{each-member, member-each}
-use Rattle.pool.specs.Laws.Trees.{tree-is, leaves-under, leaf-is}
+use Rattle.pool.specs.Laws.Trees.{leaves-under, leaf-is}
 
 module _ (p : Pool) (table : List ℕ) (rank : ℕ → ℕ) (ranked : Ranked p table rank) where
   walk-falls : {e t : ℕ} → Walk p table e t → rank t < rank e
