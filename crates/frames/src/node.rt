@@ -7,6 +7,17 @@ ghost use Prim.Native.Nat.{_+_, _*_, _<_, _≤_};
 ghost use lib.ListN.{length};
 ghost use Rattle.frames.specs.Nodes.{u64At, headOk, nodeSize, literalOk, childOf, signOf, magnitudeOf, nodeOf, nodeAnswer};
 
+// The bytes before the children.
+const HEAD_SIZE: usize = 6;
+
+// Those and the sign, which stands after the children.
+const SIGNED_HEAD_SIZE: usize = 7;
+
+const CHILD_SIZE: usize = 2;
+
+// A sign and a magnitude.
+const LITERAL_SIZE: usize = 9;
+
 // `count` is the frame's own child count. Only the first three children are kept; one that is not there is 0, and so is a literal.
 pub struct Node {
     pub kind: u8,
@@ -61,9 +72,9 @@ fn head_ok(kind: u8, next: u8, id: u16) -> bool
 fn node_size(kind: u8, count: u8) -> usize
     ensures { λ r. ⌜ r ≡ nodeSize kind count ⌝ }
 {
-    let head = 6 + 2 * (count as usize);
+    let head = HEAD_SIZE + CHILD_SIZE * (count as usize);
     if Kind::carries_literal(kind) {
-        head + 9
+        head + LITERAL_SIZE
     } else {
         head
     }
@@ -87,7 +98,7 @@ fn child_of(f: &[u8], count: u8, k: usize) -> u16
     ensures { λ r. ⌜ r ≡ childOf (now (f .entry)) count k ⌝ }
 {
     if k < count as usize {
-        u16_at(f, 6 + 2 * k)
+        u16_at(f, HEAD_SIZE + CHILD_SIZE * k)
     } else {
         0
     }
@@ -97,7 +108,7 @@ fn sign_of(f: &[u8], kind: u8, count: u8) -> u8
     requires { ⌜ length (now f) ≡ nodeSize kind count ⌝ }
     ensures { λ r. ⌜ r ≡ signOf (now (f .entry)) kind count ⌝ }
 {
-    let at = 6 + 2 * (count as usize);
+    let at = HEAD_SIZE + CHILD_SIZE * (count as usize);
     if Kind::carries_literal(kind) {
         f[at]
     } else {
@@ -109,7 +120,7 @@ fn magnitude_of(f: &[u8], kind: u8, count: u8) -> u64
     requires { ⌜ length (now f) ≡ nodeSize kind count ⌝ }
     ensures { λ r. ⌜ r ≡ magnitudeOf (now (f .entry)) kind count ⌝ }
 {
-    let at = 7 + 2 * (count as usize);
+    let at = SIGNED_HEAD_SIZE + CHILD_SIZE * (count as usize);
     if Kind::carries_literal(kind) {
         u64_at(f, at)
     } else {
@@ -120,7 +131,7 @@ fn magnitude_of(f: &[u8], kind: u8, count: u8) -> u64
 pub fn node_frame(f: &[u8]) -> NodeRead
     ensures { λ r. ⌜ nodeAnswer r ≡ nodeOf (now (f .entry)) ⌝ }
 {
-    if f.len() < 6 {
+    if f.len() < HEAD_SIZE {
         return NodeRead::Malformed;
     }
     let kind = f[1];

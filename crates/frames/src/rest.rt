@@ -3,6 +3,13 @@ use kinds::big_endian::u16_at;
 ghost use mathlib.Core.Path.{_≡_};
 ghost use Rattle.frames.specs.Rest.{expressionOf, expressionAnswer, requestOf, requestAnswer};
 
+const EXPRESSION_SIZE: usize = 4;
+
+const REQUEST_SIZE: usize = 5;
+
+// All three flags set.
+const MOST_FLAGS: u8 = 7;
+
 // Flags: bit 0 keep, 1 keep2ns, 2 idQ.
 pub struct Expression {
     pub root: u16,
@@ -28,10 +35,10 @@ pub enum RequestRead {
 pub fn expression_frame(f: &[u8]) -> ExpressionRead
     ensures { λ r. ⌜ expressionAnswer r ≡ expressionOf (now (f .entry)) ⌝ }
 {
-    if f.len() != 4 {
+    if f.len() != EXPRESSION_SIZE {
         return ExpressionRead::Malformed;
     }
-    if 7 < f[3] {
+    if MOST_FLAGS < f[3] {
         return ExpressionRead::Malformed;
     }
     ExpressionRead::Read(Expression {
@@ -43,7 +50,7 @@ pub fn expression_frame(f: &[u8]) -> ExpressionRead
 pub fn request_frame(f: &[u8]) -> RequestRead
     ensures { λ r. ⌜ requestAnswer r ≡ requestOf (now (f .entry)) ⌝ }
 {
-    if f.len() != 5 {
+    if f.len() != REQUEST_SIZE {
         return RequestRead::Malformed;
     }
     if 1 < f[3] {
