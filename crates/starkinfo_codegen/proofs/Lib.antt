@@ -6,3 +6,5 @@ pub mod Leaves
 pub mod Calls
 pub mod Emits
 pub mod Blocks
+pub mod Outs
+pub mod Orders

@@ -9,3 +9,5 @@ pub mod Plans
 pub mod Emitting
 pub mod Sizes
 pub mod Making
+pub mod Ordering
+pub mod Requests

@@ -3,5 +3,7 @@ pub mod block;
 pub mod count;
 pub mod eval;
 pub mod operation;
+pub mod order;
+pub mod out;
 pub mod source;
 pub mod words;
