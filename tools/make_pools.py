@@ -4,8 +4,8 @@
 usage: tools/make_pools.py [--check]      (from the repository's top folder)
 
 --check writes nothing and fails where a file is not what it would be. The numbers are document 01's, said here case by case
-and not computed. An entry of stdin is the length of its name (1 byte), that of its frames (2), the name, and the frames, each
-behind its length (2); stdout has a line for each: the name and the number.
+and not computed. An entry of stdin is its form (1 byte), the length of its name (1), that of the pool (2), the name, and the pool:
+of form 0 frames, each behind its length (2), of form 1 a text, a frame a line. stdout has a line for each: the name and the number.
 """
 import os
 import sys
@@ -14,6 +14,7 @@ TARGET = "crates/replay_pool"
 ADD, SUB, MUL, MULADD, ADDC, MULC, NEG = 1, 2, 3, 4, 5, 6, 7
 CM, CONST, EXP, Q, NUMBER, PUBLIC, CHALLENGE, EVAL, XI, WXI, X = range(0x10, 0x1B)
 NODES, EXPRESSIONS, REQUESTS = 4096, 512, 1024
+FRAMES, TEXT = 0, 1
 cases = []
 
 
@@ -50,12 +51,20 @@ def request(e, prime=0, muladd=0):
     return bytes([3]) + two(e) + bytes([prime, muladd])
 
 
-def raw(name, expected, data):
-    cases.append((name, expected, data))
+def raw(name, expected, data, form=FRAMES):
+    cases.append((form, name, expected, data))
 
 
 def case(name, expected, *frames):
     raw(name, expected, b"".join(two(len(f)) + f for f in frames))
+
+
+def lines(*frames):
+    return b"".join(f.hex().encode() + b"\n" for f in frames)
+
+
+def text(name, expected, data):
+    raw("text-" + name, expected, data, TEXT)
 
 
 def good():
@@ -198,6 +207,62 @@ def limits():
     case("first-fault-decides", 1, node(CM, next=2), *[request(0)] * (REQUESTS + 1))
 
 
+def texts():
+    pool = [cm(0), cm(1), node(MUL, 0, 1), node(CONST, id=0, next=1), node(ADD, 2, 3), root(4)]
+    run = b"011000000000\n011000000100\n01030000000200000001\n011101000000\n01010000000200020003\n02000400\n0300000001\n"
+    assert run == lines(*pool, request(0, 0, 1))
+    text("whole-run", 0, run)
+    text("whole-run-not-fused", 0, lines(*pool, request(0)))
+    text("no-line-feed-at-the-end", 0, run[:-1])
+    text("empty", 0, b"")
+    text("one-leaf", 0, lines(cm()))
+    text("one-leaf-no-line-feed", 0, lines(cm())[:-1])
+    text("a-line-feed", 1, b"\n")
+    text("two-line-feeds", 1, b"\n\n")
+    text("empty-line-first", 1, b"\n" + run)
+    text("empty-line-in-the-middle", 1, lines(cm()) + b"\n" + lines(root(0)))
+    text("empty-line-last", 1, run + b"\n")
+    leaf = lines(cm(0xABCD))[:-1]
+    text("letters", 0, leaf)
+    text("upper-case", 1, leaf.upper())
+    text("one-upper-case-digit", 1, leaf.replace(b"d", b"D"))
+    for byte in b"/:`g@G\x00\xff":
+        text(f"byte-{byte:02x}", 1, leaf.replace(b"d", bytes([byte])))
+    text("odd", 1, leaf + b"0")
+    text("one-digit-short", 1, leaf[:-1])
+    text("one-digit", 1, b"0")
+    text("space-before", 1, b" " + leaf)
+    text("space-after", 1, leaf + b" ")
+    text("two-spaces-after", 1, leaf + b"  \n")
+    text("space-inside", 1, leaf[:2] + b" " + leaf[2:])
+    text("tab", 1, leaf + b"\t\n")
+    text("carriage-return", 1, leaf + b"\r\n")
+    text("carriage-return-for-a-line-feed", 1, leaf + b"\r" + leaf)
+    text("two-frames-in-a-line", 1, leaf + leaf)
+    longest = lines(node(ADDC, *range(255), tail=literal(0, 1)))
+    assert len(longest) == 1050 + 1
+    text("1050-digits", 2, longest)
+    text("1050-digits-no-line-feed", 2, longest[:-1])
+    text("1051-digits", 1, longest[:-1] + b"0\n")
+    text("1052-digits", 1, longest[:-1] + b"00\n")
+    text("1052-digits-and-then-more", 1, lines(cm()) + longest[:-1] + b"00\n" + lines(cm()))
+    text("malformed-frame", 1, lines(cm(next=2)))
+    text("out-of-order", 1, lines(cm(), root(0), cm()))
+    text("not-there", 3, lines(cm(), root(1)))
+    text("cycle", 4, lines(exp(0), root(0)))
+    text("first-fault-decides", 1, lines(node(CM, next=2), *[request(0)] * (REQUESTS + 1)))
+    text("nothing-after-a-malformed-line", 1, b"x\n" + lines(*[request(0)] * (REQUESTS + 1)))
+    text("nothing-after-a-limit", 9, lines(*[request(0)] * (REQUESTS + 1)) + b"x\n")
+    text("malformed-line-past-a-limit", 1, lines(*[request(0)] * REQUESTS) + b"x\n")
+    text("malformed-line-before-a-wrong-count", 1, lines(node(NEG)) + b"x\n")
+    text("nodes-full", 0, lines(*[cm()] * NODES))
+    text("nodes-one-too-many", 9, lines(*[cm()] * (NODES + 1)))
+    text("expressions-full", 0, lines(*[cm()] * EXPRESSIONS, *[root(e) for e in range(EXPRESSIONS)]))
+    text("expressions-one-too-many", 9, lines(*[cm()] * (EXPRESSIONS + 1), *[root(e) for e in range(EXPRESSIONS + 1)]))
+    text("requests-full", 0, lines(*[request(0)] * REQUESTS))
+    text("requests-one-too-many", 9, lines(*[request(0)] * (REQUESTS + 1)))
+
+
 def write_or_check(name, data, check):
     path = f"{TARGET}/{name}"
     if check:
@@ -212,11 +277,11 @@ def main():
     check = sys.argv[1:] == ["--check"]
     if len(sys.argv) > 1 and not check:
         sys.exit(__doc__)
-    for part in (good, malformed, wrong_counts, not_there, cycles, limits):
+    for part in (good, malformed, wrong_counts, not_there, cycles, limits, texts):
         part()
-    entries = (bytes([len(n)]) + two(len(d)) + n.encode() + d for n, _, d in cases)
+    entries = (bytes([f, len(n)]) + two(len(d)) + n.encode() + d for f, n, _, d in cases)
     write_or_check("stdin", b"".join(entries), check)
-    write_or_check("stdout", "".join(f"{n} {e}\n" for n, e, _ in cases).encode(), check)
+    write_or_check("stdout", "".join(f"{n} {e}\n" for _, n, e, _ in cases).encode(), check)
     print(f"{len(cases)} pools")
 
 

@@ -12,7 +12,7 @@ use lib.Seq.{drop-cons, take-at}
 use lib.Dec.{eqb, leb}
 use borrow.Author.Tests.{eqb-true, leb-true, le-leb, lt-leb}
 use Rattle.kinds.specs.Range.{within, within-true}
-use Rattle.kinds.specs.Write.{write, write-is, write-none}
+use Rattle.kinds.specs.Write.{write, write-is, write-none, write-length}
 use Rattle.meaning.specs.Refusals.{done}
 use Rattle.frames.specs.Lines.{longestFrame, isDigit, digitOf, allDigits, lineOk, bytesOf, lineOf, lineInto, Unhexes}
 use Rattle.frames.specs.declared.hex.Unhexed.the-variants.{Malformed, Bytes}
@@ -151,8 +151,13 @@ module _ (l : List ℕ) (e : lineOk l ≡ true) where
       let n : length (bytesOf l) ≡ length l / 2 = bytes-length l in
       let z : take (length l / 2) (write out 0 (bytesOf l)) ≡ bytesOf l
       = rw (write-is out 0 (bytesOf l) (omega (arith, line l e .short))) (rw (← n) (take-at (bytesOf l) (drop (0 + length (bytesOf l)) out) (length (bytesOf l)) refl)) in
-      record { answer = simp e (ap done (rw g z)); buffer = simp e g }
+      let j : length after ≡ longestFrame = ap length g ∙ write-length out 0 (bytesOf l) ∙ h in
+      record {
+        answer = simp e (ap done (rw g z));
+        buffer = simp e g;
+        inside = λ m q. let k : length l / 2 ≡ m = cc in omega (arith, line l e .short);
+      }
 
 pub not-unhexed : (l out : List ℕ) → lineOk l ≡ false → Unhexes l Malformed out out
 unfolding lineOf lineInto
-not-unhexed l out e = record { answer = simp e; buffer = simp e }
+not-unhexed l out e = record { answer = simp e; buffer = simp e; inside = λ m q. let z : _≡_ {A = ℕ} 0 1 = cc in absurd (omega arith) }

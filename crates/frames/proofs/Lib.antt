@@ -3,3 +3,4 @@ pub mod Tests
 pub mod Takes
 pub mod Loops
 pub mod Digits
+pub mod Texts

@@ -1,7 +1,7 @@
 -- Where reading stands at an index of the slice: what is left, after what is held, is the whole. For `scan` and for `fill`.
 -- Assumes nothing.
 use mathlib.Core.Path.{_≡_, refl, ap, sym, _∙_}
-use mathlib.Core.List.{List}
+use mathlib.Core.List.{List, _∷_}
 use mathlib.Core.Option.{Option, none}
 use Prim.Native.Nat.{ℕ, _+_, _-_, _≤_, _<_}
 use native.Mathlib.Omega.{arith}
@@ -19,7 +19,7 @@ use Rattle.frames.specs.declared.count.Reading.{Reading}
 use Rattle.frames.specs.declared.count.Reading.the-variants.{Read}
 use Rattle.frames.specs.declared.read.Next.the-variants.{Cut, Frame}
 
-abbrev zeros : Counts
+abbrev pub zeros : Counts
 zeros = record { nodes = 0; expressions = 0; requests = 0 }
 
 -- ---- counting
@@ -55,6 +55,20 @@ module _ (s : List ℕ) where
 
 -- ---- filling
 
+-- one frame more: what is left, read after what is held then, is what it was
+module _
+    (a : Answer Input) (t : Tables) (s : Sized t) (c : Counts) (f : List ℕ) (b : Bytes f) (gs : List (List ℕ)) (e : readFrom (inputIn t c) (f ∷ gs) ≡ a)
+    (r : Reading) (u : Tables) (p : Takes t c f r u)
+  where
+    pub turn : (held u r then λ j. readFrom j gs) ≡ a
+    unfolding readFrom
+    turn =
+        let z : held u r ≡ step (inputIn t c) f = rw (p .answer, p .after) (take-step t s c f b) in
+        rw z e
+
+    pub turn-sized : Sized u
+    turn-sized = rw (p .after) (sized-take t s c f)
+
 pub record Filled (s : List ℕ) (t : Tables) (c : Counts) (at : ℕ) : Type 0 where
   pub inside : at ≤ length s
   pub sized : Sized t
@@ -79,14 +93,10 @@ module _ (s : List ℕ) (t : Tables) where
         (p : Takes t c (take (end - from) (drop from s)) r u)
       where
         fill-turn : (held u r then λ j. readFrom j (framesIn (drop end s))) ≡ reading s
-        unfolding readFrom
-        fill-turn =
-            let z : held u r ≡ step (inputIn t c) (take (end - from) (drop from s))
-            = rw (p .answer, p .after) (take-step t (w .sized) c _ (bytes-part s (end - from) from b)) in
-            rw z (rw (next-whole s at from end e .frames) at (w .same))
+        fill-turn = turn (reading s) t (w .sized) c _ (bytes-part s (end - from) from b) _ (rw (next-whole s at from end e .frames) at (w .same)) r u p
 
         after-sized : Sized u
-        after-sized = rw (p .after) (sized-take t (w .sized) c _)
+        after-sized = turn-sized (reading s) t (w .sized) c _ (bytes-part s (end - from) from b) _ (rw (next-whole s at from end e .frames) at (w .same)) r u p
 
         pub fill-refused : (q : Reading) (k : Refusal) (o : Option ℕ) → r ≡ q → countsAnswer q ≡ refused k o → Fills s q u
         fill-refused q k o g h = record { answer = rw h (rw (g, h) at fill-turn); sized = after-sized }

@@ -16,3 +16,6 @@ pub mod Exactly
 pub mod Limits
 pub mod Written
 pub mod Lines
+pub mod Text
+pub mod TextLaws
+pub mod Hexed

@@ -49,11 +49,21 @@ within-from i j (f ∷ fs) w e = by (step i f) refl e (λ k. within-from k j fs)
     by (done k) q e h = h k (within-step i k f w q) e
     by (refused r n) q e h = let z : _≡_ {A = ℕ} 0 1 = cc in absurd (omega arith)
 
+-- of any frames
+pub within-all : (fs : List (List ℕ)) (i : Input) → readFrom nothing fs ≡ done i → Within (countsOf i)
+unfolding countsOf
+within-all fs i e = within-from nothing i fs (record { nodes = omega arith; expressions = omega arith; requests = omega arith }) e
+
 -- of a whole slice
 pub within : (s : List ℕ) (i : Input) → reading s ≡ done i → Within (countsOf i)
-unfolding reading countsOf
-within s i e = within-from nothing i (framesIn s) (record { nodes = omega arith; expressions = omega arith; requests = omega arith }) e
+unfolding reading
+within s i e = within-all (framesIn s) i e
+
+-- of what stands in the tables
+pub held-within : (fs : List (List ℕ)) (t : Tables) (c : Counts) → held t (Read c) ≡ readFrom nothing fs → Within c
+held-within fs t c e = rw (counts-in t c) at (within-all fs (inputIn t c) (sym e))
 
 -- of what `fill` and `read` answer
 pub read-within : (s : List ℕ) (t : Tables) (c : Counts) → held t (Read c) ≡ reading s → Within c
-read-within s t c e = rw (counts-in t c) at (within s (inputIn t c) (sym e))
+unfolding reading
+read-within s t c e = held-within (framesIn s) t c e

@@ -4,7 +4,7 @@ use mathlib.Core.Bool.{Bool, true, cond, not, _&&_, _||_}
 use mathlib.Core.List.{List, [], _∷_}
 use mathlib.Core.Option.{none}
 use mathlib.Core.Path.{_≡_}
-use Prim.Native.Nat.{ℕ, _+_, _*_, _-_, _%_}
+use Prim.Native.Nat.{ℕ, _+_, _*_, _-_, _%_, _≤_}
 use lib.ListN.{length, take}
 use lib.Dec.{eqb, leb}
 use Rattle.kinds.specs.Range.{within}
@@ -56,3 +56,4 @@ lineInto out l = cond (lineOk l) (write out 0 (bytesOf l)) out
 pub record Unhexes (l : List ℕ) (r : Unhexed) (out after : List ℕ) : Type 0 where
   pub answer : unhexAnswer after r ≡ lineOf l
   pub buffer : after ≡ lineInto out l
+  pub inside : (n : ℕ) → r ≡ Bytes n → n ≤ length after

@@ -1,5 +1,5 @@
-// The frames of document 01: one frame read, frames counted and stored into tables of packed words, a slice of frames read whole, and
-// the hexadecimal line of a frame.
+// The frames of document 01: one frame read, frames counted and stored into tables of packed words, a slice of frames read whole,
+// the hexadecimal line of a frame, and a text of such lines read whole.
 pub mod count;
 pub mod frame;
 pub mod hex;
@@ -8,3 +8,4 @@ pub mod read;
 pub mod rest;
 pub mod tables;
 pub mod take;
+pub mod text;

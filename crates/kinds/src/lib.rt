@@ -3,5 +3,6 @@ pub mod big_endian;
 pub mod kind;
 pub mod literal;
 pub mod reference;
+pub mod refusal;
 pub mod step;
 pub mod step_op;

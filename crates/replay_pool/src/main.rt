@@ -1,10 +1,13 @@
-// Reads pools and prints the number that each gets: 0 where it is admitted, else the refusal's.
+// Reads pools, as frames or as texts, and prints the number that each gets: 0 where it is admitted, else the refusal's.
 use kinds::big_endian::u16_of;
 use libc::STDIN_FILENO;
 use libc::STDOUT_FILENO;
 
 // More than stdin has; a program ends.
 const ENTRIES: u32 = 4096;
+
+// The form of an entry that is a text of hexadecimal lines; any other is of frames, each behind its length.
+const TEXT: u8 = 1;
 
 // Reads the first n bytes of a buffer; false where it is too short or the input ends.
 fn filled(buffer: &mut [u8], n: usize) -> bool {
@@ -20,11 +23,14 @@ fn print(buffer: &[u8], n: usize) {
     }
 }
 
-fn number(frames: &[u8], n: usize) -> u64 {
-    if n <= frames.len() {
-        wide(pool::number::number_of(&frames[..n]))
+fn number(form: u8, input: &[u8], n: usize) -> u64 {
+    if input.len() < n {
+        return 0;
+    }
+    if form == TEXT {
+        wide(pool::number::number_of_text(&input[..n]))
     } else {
-        0
+        wide(pool::number::number_of(&input[..n]))
     }
 }
 
@@ -32,33 +38,34 @@ fn wide(x: u8) -> u64 {
     x as u64
 }
 
-// The length of the name, that of the frames, the name, the frames.
-fn entry(head: &mut [u8; 3], name: &mut [u8], frames: &mut [u8]) -> bool {
-    if !filled(head, 3) {
+// The form, the length of the name, that of the pool, the name, the pool.
+fn entry(head: &mut [u8; 4], name: &mut [u8], input: &mut [u8]) -> bool {
+    if !filled(head, 4) {
         return false;
     }
-    let n = wide(head[0]) as usize;
-    let m = u16_of(head[1], head[2]) as usize;
+    let form = head[0];
+    let n = wide(head[1]) as usize;
+    let m = u16_of(head[2], head[3]) as usize;
     if !filled(name, n) {
         return false;
     }
-    if !filled(frames, m) {
+    if !filled(input, m) {
         return false;
     }
     print(name, n);
     io::write_all(STDOUT_FILENO, b" ");
-    io::print_decimal(STDOUT_FILENO, number(frames, m));
+    io::print_decimal(STDOUT_FILENO, number(form, input, m));
     io::write_all(STDOUT_FILENO, b"\n");
     true
 }
 
 fn main() {
-    let mut head = [0u8; 3];
+    let mut head = [0u8; 4];
     let mut name = io::buffer();
-    let mut frames = io::large_buffer();
+    let mut input = io::large_buffer();
     let mut turn: u32 = 0;
     while turn < ENTRIES {
-        if !entry(&mut head, &mut name, &mut frames) {
+        if !entry(&mut head, &mut name, &mut input) {
             return;
         }
         turn += 1;

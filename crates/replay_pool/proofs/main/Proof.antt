@@ -7,10 +7,10 @@ use Rattle.replay_pool.proofs.main.Statement.{statement}
 use Rattle.replay_pool.proofs.main.Tie as tie
 
 abbrev Inv-loop : tie.InvT-loop
-Inv-loop head₀ name₀ frames₀ turn₀ head name frames turn = (turn ≤ 4096) × (length name ≡ 4096) × (length frames ≡ 65536)
+Inv-loop head₀ name₀ input₀ turn₀ head name input turn = (turn ≤ 4096) × (length name ≡ 4096) × (length input ≡ 65536)
 
 abbrev μ-loop : tie.MeasureT-loop
-μ-loop head₀ name₀ frames₀ turn₀ head name frames turn = 4096 - turn
+μ-loop head₀ name₀ input₀ turn₀ head name input turn = 4096 - turn
 
 buffer-requires : tie.Need-buffer-requires Inv-loop μ-loop
 buffer-requires c κs = search needs
