@@ -9,6 +9,7 @@ pub mod Order
 pub mod Generation
 pub mod Building
 pub mod Demand3
+pub mod Asking
 pub mod Laws
 pub mod Models
 pub mod Proved
