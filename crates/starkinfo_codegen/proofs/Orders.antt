@@ -30,6 +30,7 @@ use Rattle.pool.specs.Laws.Forest.{forest-at, forest-has}
 use Rattle.starkinfo_codegen.specs.Words.{nodeAt}
 use Rattle.starkinfo_codegen.specs.Operations.{operationAt}
 use Rattle.starkinfo_codegen.specs.Emitting.{Rest, tablesOf, poolOf, Pooled, treeOf}
+use Rattle.starkinfo_codegen.specs.JobWords.{words-append, words-length}
 use Rattle.starkinfo_codegen.specs.Ordering.{leavesOf, verdict, OutAsks, cellOf, marksOf, jobAt, jobWords, State, Stopped, Made, Gives, CodeAsks, DepsAsks, coded, needed}
 use Rattle.starkinfo_codegen.specs.declared.operation.Operation.{Operation}
 use Rattle.starkinfo_codegen.proofs.Planned.{Operand, Planned}
@@ -44,14 +45,6 @@ job-fused c f h = rw h
 pub job-plain : (c : ℕ) (f : Bool) → f ≡ false → c * 2 ≡ jobAt c f
 unfolding jobAt
 job-plain c f h = rw h (sym (add-zero (c * 2)))
-
-words-append : (xs ys : List Job) → jobWords (xs ++ ys) ≡ jobWords xs ++ jobWords ys
-words-append [] ys = refl
-words-append (x ∷ xs) ys = ap (λ l. jobAt (cellOf (x .expression) (x .row)) (x .fused) ∷ l) (words-append xs ys)
-
-words-length : (xs : List Job) → length (jobWords xs) ≡ length xs
-words-length [] = refl
-words-length (x ∷ xs) = ap suc (words-length xs)
 
 write-one : (l : List ℕ) (i v : ℕ) → set l i v ≡ write l i (v ∷ [])
 unfolding write

@@ -10,4 +10,5 @@ pub mod Emitting
 pub mod Sizes
 pub mod Making
 pub mod Ordering
+pub mod JobWords
 pub mod Requests

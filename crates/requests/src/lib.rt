@@ -1,0 +1,2 @@
+// Requests over tables: the blocks that they ask for, in order, and these blocks made.
+pub mod plan;
