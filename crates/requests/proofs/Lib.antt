@@ -1,1 +1,3 @@
+-- Lemmas over plain variables, which the functions' proofs cite.
 pub mod Plans
+pub mod Makes

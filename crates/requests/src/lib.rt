@@ -1,2 +1,3 @@
 // Requests over tables: the blocks that they ask for, in order, and these blocks made.
+pub mod make;
 pub mod plan;
