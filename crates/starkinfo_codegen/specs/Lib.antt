@@ -11,3 +11,4 @@ pub mod Sizes
 pub mod Making
 pub mod Ordering
 pub mod Requests
+pub mod Totals
