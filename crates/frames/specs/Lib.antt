@@ -14,6 +14,7 @@ pub mod Splitting
 pub mod Verdicts
 pub mod Exactly
 pub mod Limits
+pub mod Ranges
 pub mod Written
 pub mod Lines
 pub mod Text

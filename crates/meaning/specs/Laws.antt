@@ -11,3 +11,4 @@ pub mod Requests
 pub mod Levels
 pub mod Again
 pub mod Unfused
+pub mod Once

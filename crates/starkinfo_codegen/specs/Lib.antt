@@ -12,3 +12,4 @@ pub mod Making
 pub mod Ordering
 pub mod JobWords
 pub mod Requests
+pub mod Totals
