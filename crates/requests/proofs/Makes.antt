@@ -3,7 +3,7 @@
 use Prim.Native.Nat.{ℕ, zero, suc, _+_, _*_, _-_, _/_, _%_, _<_, _≤_}
 use mathlib.Core.Path.{_≡_, refl, sym, _∙_, ap, subst}
 use mathlib.Core.Bool.{Bool, true, false}
-use mathlib.Core.Option.{some}
+use mathlib.Core.Option.{Option, none, some}
 use mathlib.Core.List.{List, [], _∷_, _++_, append-nil}
 use native.Mathlib.Omega.{arith}
 use native.Mathlib.Nat.{not-suc-le-zero, le-of-suc-le-suc, mul-add}
@@ -35,7 +35,7 @@ use Rattle.starkinfo_codegen.specs.Emitting.{Rest, tablesOf, poolOf, Pooled, Ro
 use Rattle.starkinfo_codegen.specs.Making.{block-made}
 use Rattle.starkinfo_codegen.specs.Ordering.{cellOf, jobAt, jobWords, World}
 use Rattle.starkinfo_codegen.specs.JobWords.{jobIn, job-back}
-use Rattle.requests.specs.Making.{wordOf, JobSays, Held, JobThere, madeOf, stepsFrom, jobSteps, allSteps, E, OneAsks, OneRoom, OneMakes, JobsAsk, Room}
+use Rattle.requests.specs.Making.{wordOf, JobSays, Held, JobThere, madeOf, stepsFrom, jobSteps, allSteps, E, OneAsks, OneRoom, OneMakes, JobsAsk, SizeIs, Room}
 use Rattle.requests.specs.declared.make.Job as code
 
 -- how many steps a block has does not hang on the temporary that it starts from
@@ -45,6 +45,20 @@ block-any e r t u d = go (eqb (ops e) 0) refl
     go : (v : Bool) → eqb (ops e) 0 ≡ v → length (blockSteps (emit e r t) d) ≡ length (blockSteps (emit e r u) d)
     go true q = let z = eqb-true (ops e) 0 q in block-leaf r t e d z ∙ sym (block-leaf r u e d z)
     go false q = let z = eqb-false (ops e) 0 q in block-count r t e d z ∙ sym (block-count r u e d z)
+
+-- so for a job, and for jobs one after another
+steps-any : (y : Job) (o : Option meaning.Expression) (t : ℕ) → length (every (makeOne y o t .blocks)) ≡ length (every (makeOne y o 0 .blocks))
+steps-any y none t = refl
+steps-any y (some z) t =
+    simp append-nil (block-any (asked (y .fused) (z .tree)) (y .row) t 0 (Ref.var (expCell (y .expression) (y .row))))
+
+pub steps-count : (G : meaning.Forest) (js : List Job) (t : ℕ) → length (stepsFrom G js t) ≡ allSteps G js
+steps-count G [] t = refl
+steps-count G (y ∷ js) t =
+    let u = madeOf G y t in
+    ap length (every-append (u .blocks) (make G js (u .counter) .blocks))
+    ∙ length-append (every (u .blocks)) (stepsFrom G js (u .counter))
+    ∙ omega (arith, steps-any y (nth G (y .expression)) t, steps-count G js (u .counter))
 
 -- ── one job ──────────────────────────────────────────────────────────────────
 module _ (w x : List ℕ) (b : Rest) (y : Job) {word : ℕ} (a : OneAsks w x b y word) where
@@ -200,9 +214,6 @@ module _ (w x : List ℕ) (b : Rest) (js : List Job) {j : List ℕ} {n : ℕ} (a
       let e : k + 1 ≡ suc k = omega arith in
       record { below = omega arith; total = rw e (omega (arith, c .total, steps-left h, g .0)); small = omega (arith, c .small, g .1) }
 
-  pub all-counted : {steps k : ℕ} → Counted steps k → n ≤ k → steps ≡ allSteps F js
-  all-counted {steps} {k} c h = omega (arith, c .total, ap (allSteps F) (nothing-left (c .below) h))
-
   -- a block has a step
   some-steps : (y : Job) → JobThere b y → 1 ≤ jobSteps F y
   some-steps y t =
@@ -215,6 +226,11 @@ module _ (w x : List ℕ) (b : Rest) (js : List Job) {j : List ℕ} {n : ℕ} (a
   enough-steps : (ys : List Job) → Each (JobThere b) ys → length ys ≤ allSteps F ys
   enough-steps [] h = omega arith
   enough-steps (y ∷ ys) h = omega (arith, some-steps y (h .0), enough-steps ys (h .1))
+
+  pub all-counted : {steps k : ℕ} → Counted steps k → n ≤ k → SizeIs w x b js n steps
+  all-counted {steps} {k} c h =
+      let e : steps ≡ allSteps F js = omega (arith, c .total, ap (allSteps F) (nothing-left (c .below) h)) in
+      record { total = e; some = omega (arith, e, enough-steps js (a .there), a .count); small = omega (arith, c .small, c .below) }
 
   -- ── blocks written ─────────────────────────────────────────────────────────
   module _ (l₀ : List ℕ) {at₀ t₀ : ℕ} (o : Room w x b js at₀ t₀ (length l₀)) where

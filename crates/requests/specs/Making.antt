@@ -83,6 +83,12 @@ module _ (w x : List ℕ) (b : Rest) where
     pub count : n ≡ length js
     pub few : n ≤ 1024
 
+  -- how many steps they have: a block has one at least and 4,096 at most
+  pub record SizeIs (js : List Job) (n r : ℕ) : Type 0 where
+    pub total : r ≡ allSteps E js
+    pub some : n ≤ r
+    pub small : r ≤ 4096 * n
+
   pub record Room (js : List Job) (at t room : ℕ) : Type 0 where
     pub rows : RowFits w b 1
     pub fits : stepSize * (at + allSteps E js) ≤ room
@@ -105,7 +111,7 @@ abbrev pub SizeAsked : List ℕ → List ℕ → List ℕ → ℕ → Type 0
 SizeAsked w x j n = (b : Rest) × (js : List Job) × JobsAsk w x b js j n
 
 abbrev pub SizeGiven : List ℕ → List ℕ → List ℕ → ℕ → ℕ → Type 0
-SizeGiven w x j n r = (b : Rest) (js : List Job) → JobsAsk w x b js j n → r ≡ allSteps (E w x b) js
+SizeGiven w x j n r = (b : Rest) (js : List Job) → JobsAsk w x b js j n → SizeIs w x b js n r
 
 abbrev pub MakeAsked : List ℕ → List ℕ → List ℕ → ℕ → ℕ → ℕ → ℕ → Type 0
 MakeAsked w x j n at t room = (b : Rest) × (js : List Job) × JobsAsk w x b js j n × Room w x b js at t room

@@ -1,3 +1,4 @@
 // Requests over tables: the blocks that they ask for, in order, and these blocks made.
+pub mod generate;
 pub mod make;
 pub mod plan;

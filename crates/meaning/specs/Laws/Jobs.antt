@@ -19,7 +19,7 @@ abbrev pub after : Marks → List Job → Marks
 after m [] = m
 after m (j ∷ js) = after (marking m (j .expression) (j .row)) js
 
-after-append : (m : Marks) (xs ys : List Job) → after m (xs ++ ys) ≡ after (after m xs) ys
+pub after-append : (m : Marks) (xs ys : List Job) → after m (xs ++ ys) ≡ after (after m xs) ys
 after-append m [] ys = refl
 after-append m (x ∷ xs) ys = after-append (marking m (x .expression) (x .row)) xs ys
 
@@ -30,6 +30,10 @@ after-grows m (j ∷ js) e r h = after-grows (marking m (j .expression) (j .row)
 
 pub marking-there : (m : Marks) (e r : ℕ) → marking m e r e r ≡ true
 marking-there m e r = rw (eqb-same e, eqb-same r)
+
+pub there-some : {A : Type 0} (o : Option A) {a : A} → there o ≡ done a → o ≡ some a
+there-some none h = absurd (let z : _≡_ {A = ℕ} 0 1 = cc in omega arith)
+there-some (some b) h = ap some (done-same _ _ h)
 
 module _ (rows : ℕ) where
   abbrev pub InRows : ℕ → Placed → Type 0
@@ -134,10 +138,6 @@ module _ (rows : ℕ) where
         let g = gives-both m (x .0) (y .0) (p .0) (q .0) in
         let all : Each (DepMarked (y .0 .marks) r) ((l at n) ∷ ls) = (d, q .1) in
         subst (λ z. Gives m z × Each (DepMarked (z .marks) r) ((l at n) ∷ ls)) (done-same _ _ (y .2)) (g, all)
-
-    there-some : {A : Type 0} (o : Option A) {a : A} → there o ≡ done a → o ≡ some a
-    there-some none h = absurd (let z : _≡_ {A = ℕ} 0 1 = cc in omega arith)
-    there-some (some b) h = ap some (done-same _ _ h)
 
     -- its own block after what its dependencies ask for
     fresh-sound :

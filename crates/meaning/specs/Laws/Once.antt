@@ -15,7 +15,7 @@ use Rattle.meaning.specs.Order.{Marks, marking, Job, Asked, nothing, ask
 use Rattle.meaning.specs.Generation.{Request}
 use Rattle.meaning.specs.Asking.{both, askOne, askAll}
 use Rattle.meaning.specs.Laws.Tests.{then-done, done-same, each-map, each-join}
-use Rattle.meaning.specs.Laws.Jobs.{after, AllFine, asks}
+use Rattle.meaning.specs.Laws.Jobs.{after, after-append, there-some, AllFine, asks}
 
 -- each job's cell is unmarked when its turn comes
 abbrev pub Chain : Marks → List Job → Type 0
@@ -23,10 +23,6 @@ Chain m [] = Unit {0}
 Chain m (j ∷ js) = (m (j .expression) (j .row) ≡ false) × Chain (marking m (j .expression) (j .row)) js
 
 -- ── marks and jobs ───────────────────────────────────────────────────────────
-after-append : (m : Marks) (xs ys : List Job) → after m (xs ++ ys) ≡ after (after m xs) ys
-after-append m [] ys = refl
-after-append m (x ∷ xs) ys = after-append (marking m (x .expression) (x .row)) xs ys
-
 chain-append : (m : Marks) (xs ys : List Job) → Chain m xs → Chain (after m xs) ys → Chain m (xs ++ ys)
 chain-append m [] ys h k = k
 chain-append m (x ∷ xs) ys h k = (h .0, chain-append (marking m (x .expression) (x .row)) xs ys (h .1) k)
@@ -61,10 +57,6 @@ chained-joins = record {
   joined = λ m a b h k.
       (chain-append m (a .jobs) (b .jobs) (h .0) (subst (λ z. Chain z (b .jobs)) (h .1) (k .0)), marks-joins .joined m a b (h .1) (k .1));
 }
-
-there-some : {A : Type 0} (o : Option A) {a : A} → there o ≡ done a → o ≡ some a
-there-some none h = absurd (let z : _≡_ {A = ℕ} 0 1 = cc in omega arith)
-there-some (some b) h = ap some (done-same _ _ h)
 
 each-all : {A : Type 0} (P : A → Type 0) → ((a : A) → P a) → (xs : List A) → Each P xs
 each-all P h [] = tt

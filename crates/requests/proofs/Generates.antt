@@ -1,0 +1,140 @@
+-- Requests decided and then written: jobs that were planned may be counted and made, and fit or do not. No word of the code.
+-- Assumes nothing.
+use Prim.Native.Nat.{ℕ, zero, suc, _+_, _*_, _-_, _<_, _≤_}
+use mathlib.Core.Path.{_≡_, refl, sym, _∙_, ap, subst}
+use mathlib.Core.Bool.{Bool, true, false, _&&_}
+use mathlib.Core.Option.{Option, none, some}
+use mathlib.Core.List.{List, [], _∷_, _++_}
+use native.Mathlib.Omega.{arith}
+use native.Mathlib.Nat.{zero-add}
+use lib.ListN.{length, getD}
+use lib.Dec.{leb, ltb}
+use borrow.Author.Tests.{leb-true, ltb-true, lt-ltb, le-leb, lt-leb}
+use Rattle.meaning.specs.Refusals.{Refusal, Answer, done, refused}
+use Rattle.meaning.specs.Trees.{Forest, Acyclic, nth, Each}
+use Rattle.meaning.specs.Trees as meaning
+use Rattle.meaning.specs.Order.{Job, Asked}
+use Rattle.meaning.specs.Generation.{Request, make}
+use Rattle.meaning.specs.Asking.{askAll}
+use Rattle.meaning.specs.Laws.Tests.{true-false, and-left, and-right, each-join, each-both}
+use Rattle.meaning.specs.Laws.Once.{all-rows, all-found}
+use Rattle.kinds.specs.Write.{write, write-there}
+use Rattle.kinds.specs.Steps.{stepSize}
+use Rattle.frames.specs.Tables.{first}
+use Rattle.pool.specs.Trees.{forest}
+use Rattle.pool.specs.Laws.Tabled.{expression-count}
+use Rattle.pool.specs.Laws.Forest.{nth-below, forest-size}
+use Rattle.starkinfo_codegen.specs.Encoding.{encoded}
+use Rattle.starkinfo_codegen.specs.Emitting.{Rest, tablesOf, poolOf}
+use Rattle.starkinfo_codegen.specs.Ordering.{marksOf, jobWords}
+use Rattle.starkinfo_codegen.specs.JobWords.{words-length}
+use Rattle.starkinfo_codegen.specs.Totals.{counter-is}
+use Rattle.requests.specs.Planning.{requestAt, requestsIn, Adds, Says}
+use Rattle.requests.specs.Making.{Held, JobThere, stepsFrom, allSteps, JobsAsk, SizeIs, Room}
+use Rattle.requests.specs.Generating.{numberLimit, hasRoom, Fits, Makes, Overflows, GenerateAsks}
+use Rattle.requests.specs.declared.plan.Plan.{Plan}
+use Rattle.requests.specs.declared.plan.Plan.the-variants as plan
+use Rattle.requests.proofs.Makes.{steps-count}
+
+-- ── what a plan says ─────────────────────────────────────────────────────────
+module _ (y : Answer Asked) (s′ j j′ : List ℕ) (p : Plan) (g : Says y s′ j j′ 0 p) where
+  pub planned : {n : ℕ} → p ≡ plan.Jobs n → Adds y s′ j j′ 0 n
+  planned e = subst (Says y s′ j j′ 0) e g
+
+  pub lost : p ≡ plan.NotThere → y ≡ refused Refusal.notThere none
+  lost e = subst (Says y s′ j j′ 0) e g
+
+  pub double : {i : ℕ} → p ≡ plan.DoublePrime i → y ≡ refused Refusal.doublePrime (some i)
+  double e = subst (Says y s′ j j′ 0) e g
+
+-- ── room ─────────────────────────────────────────────────────────────────────
+module _ (room at t jobs steps : ℕ) where
+  pub no-room : room < stepSize * (at + steps) → false ≡ hasRoom room at t jobs steps
+  unfolding hasRoom
+  no-room h = rw (lt-leb (stepSize * (at + steps)) room h)
+
+  pub list-room : stepSize * (at + steps) ≤ room → ltb (t + (steps - jobs)) 65536 ≡ hasRoom room at t jobs steps
+  unfolding hasRoom
+  list-room h = rw (le-leb (stepSize * (at + steps)) room h)
+
+  room-both : hasRoom room at t jobs steps ≡ true → (stepSize * (at + steps) ≤ room) × (t + (steps - jobs) < numberLimit)
+  unfolding hasRoom
+  room-both h = (
+    leb-true (stepSize * (at + steps)) room (and-left (leb (stepSize * (at + steps)) room) (ltb (t + (steps - jobs)) numberLimit) h),
+    ltb-true (t + (steps - jobs)) numberLimit (and-right (leb (stepSize * (at + steps)) room) (ltb (t + (steps - jobs)) numberLimit) h),
+  )
+
+  room-there : stepSize * (at + steps) ≤ room → t + (steps - jobs) < numberLimit → hasRoom room at t jobs steps ≡ true
+  unfolding hasRoom
+  room-there h g = rw (le-leb (stepSize * (at + steps)) room h, lt-ltb (t + (steps - jobs)) numberLimit g)
+
+each-first : {B : Type 0} (P : B → Type 0) (g : ℕ → B) (n : ℕ) → ((k : ℕ) → k < n → P (g k)) → Each P (first g n)
+unfolding first
+each-first P g zero h = tt
+each-first P g (suc n) h = each-join P (first g n) (g n ∷ []) (each-first P g n (λ k l. h k (omega arith))) (h n (omega arith), tt)
+
+-- ── jobs that were planned ───────────────────────────────────────────────────
+module _ (w x : List ℕ) (b : Rest) (A : Acyclic (forest (poolOf w b))) {r s j : List ℕ} {m count at t : ℕ} (a : GenerateAsks w x b A r s j m count at t) where
+  abbrev G : Forest
+  G = forest (poolOf w b)
+
+  abbrev X : Answer Asked
+  X = askAll 2 G (requestsIn r count) (marksOf s)
+
+  module _ {s′ j′ : List ℕ} {n : ℕ} (d : Adds X s′ j j′ 0 n) where
+    found : Each (λ y. (z : meaning.Expression) × (nth G (y .expression) ≡ some z)) (d .jobs)
+    found = all-found 2 G (requestsIn r count) (marksOf s) _ (d .is)
+
+    there : Each (JobThere b) (d .jobs)
+    there =
+        each-both (λ y. (z : meaning.Expression) × (nth G (y .expression) ≡ some z)) (λ y. y .row < 2) (JobThere b)
+        (λ y f q. (omega (arith, nth-below G (y .expression) (f .1), forest-size (poolOf w b), expression-count (tablesOf w b)), q)) (d .jobs) found
+        (all-rows 2 G (requestsIn r count) (marksOf s) _ (each-first (λ q. q .row < 2) (requestAt r) count (a .plan .inRows)) (d .is))
+
+    held : Held j′ (d .jobs)
+    held k h =
+        let e = words-length (d .jobs) in
+        ap (λ (z : List ℕ). getD z k 0) (d .written)
+        ∙ rw zero-add at (write-there j 0 (jobWords (d .jobs)) k (omega (arith, e, d .count, d .state .room, a .plan .state .jobsSize)) (omega (arith, e)))
+
+    pub jobs-ask : JobsAsk w x b (d .jobs) j′ n
+    jobs-ask = record {
+      world = a .plan .world;
+      size = d .state .jobsSize;
+      held = held;
+      there = there;
+      count = d .count ∙ zero-add (length (d .jobs));
+      few = omega (arith, d .state .room);
+    }
+
+    module _ {v : ℕ} (z : SizeIs w x b (d .jobs) n v) where
+      pub sizes : (at ≤ 65535) × (t ≤ 65535) × (n ≤ v) × (v ≤ 4194304)
+      sizes = (omega (arith, a .steps), omega (arith, a .temporaries), z .some, omega (arith, z .small, jobs-ask .few))
+
+      steps-are : length (stepsFrom G (d .jobs) t) ≡ v
+      steps-are = steps-count G (d .jobs) t ∙ sym (z .total)
+
+      counter-is-v : make G (d .jobs) t .counter ≡ t + (v - n)
+      counter-is-v = omega (arith, counter-is G (d .jobs) t found, steps-are, z .some, d .count)
+
+      module _ {size : ℕ} where
+        pub room : hasRoom size at t n v ≡ true → Room w x b (d .jobs) at t size
+        room h =
+            let g = room-both size at t n v h in
+            record { rows = a .rows; fits = omega (arith, g .0, z .total); counter = omega (arith, g .1, z .total, z .some, d .count) }
+
+        fits : hasRoom size at t n v ≡ true → Fits G (d .jobs) at t size
+        fits h =
+            let g = room-both size at t n v h in
+            record { list = omega (arith, g .0, steps-are); counter = omega (arith, g .1, counter-is-v) }
+
+        over : hasRoom size at t n v ≡ false → Fits G (d .jobs) at t size → ⊥
+        over h f = true-false (room-there size at t n v (omega (arith, f .list, steps-are)) (omega (arith, f .counter, counter-is-v))) h
+
+      pub makes :
+          (l : List ℕ) {l′ : List ℕ} → hasRoom (length l) at t n v ≡ true → l′ ≡ write l (stepSize * at) (encoded (stepsFrom G (d .jobs) t)) →
+          Makes G X s′ j j′ l l′ at t n v
+      makes l h e = record { adds = d; fits = fits h; count = sym steps-are; list = e }
+
+      pub overflows : (l : List ℕ) → hasRoom (length l) at t n v ≡ false → Overflows G X s′ j j′ l l at t
+      overflows l h = record { jobs = d .jobs; marks = marksOf s′; is = d .is; over = over h; kept = refl }
