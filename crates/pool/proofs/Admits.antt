@@ -1,6 +1,6 @@
 -- From the shape and the ranks to the verdict.
 -- Assumes nothing.
-use Prim.Native.Nat.{ℕ}
+use Prim.Native.Nat.{ℕ, _<_}
 use mathlib.Core.Path.{_≡_, refl, sym, _∙_, ap, subst}
 use mathlib.Core.Bool.{Bool, true, false}
 use mathlib.Core.Option.{Option}
@@ -9,13 +9,20 @@ use mathlib.Core.Logic.{inl, inr, ⊎-elim}
 use native.Mathlib.Omega.{arith}
 use Rattle.meaning.specs.Refusals.{Refusal, Answer, done, refused}
 use Rattle.meaning.specs.Laws.Tests.{true-false, done-not-refused}
-use Rattle.pool.specs.Pool.{Pool}
+use Rattle.meaning.specs.Trees.{_at_, leaves}
+use Rattle.pool.specs.Pool.{Pool, rootOf}
+use Rattle.pool.specs.Trees.{tree}
 use Rattle.pool.specs.Shaped.{Shaped}
-use Rattle.pool.specs.Admission.{shape, Ranked}
+use Rattle.pool.specs.Admission.{shape, ClosedWalk, LeadsBack, OnCycle, FirstOnCycle, Ranked}
 use Rattle.pool.specs.Tabled.{Tables, tabled}
 use Rattle.pool.specs.Ranking.{Starts, rankIn, Outcome}
+use Rattle.pool.specs.Cycles.{LeastOf}
 use Rattle.pool.specs.Admitting.{Fits, Admits, bare, verdictSays}
 use Rattle.pool.specs.Laws.Shape as shapes
+use Rattle.pool.specs.Laws.Members.{member-each}
+use Rattle.pool.specs.Laws.Tabled.{node-count}
+use Rattle.pool.specs.Laws.Walks.{OfNode, of-node}
+use Rattle.pool.specs.Laws.Cycles.{closed-on}
 use Rattle.pool.specs.declared.admit.Verdict.{Verdict}
 use Rattle.pool.specs.declared.admit.Verdict.the-variants as verdict
 use Rattle.pool.specs.declared.admit.Admission.{Admission}
@@ -55,15 +62,32 @@ module _ (t : Tables) (table : List ℕ) where
       go a q (shapes.Shape.root w x) = shapes.shaped-there (tabled t) s x
       go a q (shapes.Shape.fine f) = done-not-refused q
 
-  pub cyclic-is : Starts t table → {b : Bool} (s : List ℕ) → Outcome t table b s → b ≡ true → Admits t table (bare verdict.Cycle)
-  cyclic-is a {b} s o h = record {
+  -- the least leaf on a cycle, where there is a closed walk
+  first-leaf : Starts t table → ClosedWalk (tabled t) table → {n : ℕ} → LeastOf (OnCycle (tabled t) table) 4096 n → FirstOnCycle (tabled t) table n
+  first-leaf a w {n} h = record {
+    on = ⊎-elim (λ q. absurd (let o = closed-on (tabled t) table w in omega (arith, h .below (o .0) (o .1), below (o .1 .1)))) (λ q. q) (h .is);
+    least = λ m l o. omega (arith, h .below m o);
+  }
+    where
+      p : Pool
+      p = tabled t
+
+      below : {u m : ℕ} → LeadsBack p table u m → m < 4096
+      below {m = m} b =
+          let r = rootOf p (b .expression) in
+          let o = member-each (OfNode p) (leaves (tree p r)) (of-node p (a .shaped) r (a .shaped .rooted (b .expression) (b .source))) (b .leaf at m) (b .stands) in
+          omega (arith, subst (λ k. m < k) (node-count t) (o .0), a .fewNodes)
+
+  pub cyclic-is :
+      Starts t table → {b : Bool} (s : List ℕ) → Outcome t table b s → b ≡ true → {n : ℕ} → LeastOf (OnCycle (tabled t) table) 4096 n → {r : Admission} → r ≡ bare (verdict.Cycle n) → Admits t table r
+  cyclic-is a {b} s o h {n} f q = subst (Admits t table) (sym q) (record {
     judged = record {
       refuses = λ r n k. absurd (shape-done (a .shaped) r n k);
-      decides = λ k. inl (refl, ⊎-elim (λ w. w .1) (λ w. absurd (true-false h (w .0))) o);
+      decides = λ k. inl (n, refl, first-leaf a (⊎-elim (λ w. w .1) (λ w. absurd (true-false h (w .0))) o) f);
     };
     ranked = λ k. absurd (let z : _≡_ {A = ℕ} 0 1 = cc in omega arith);
     blank = λ k. refl;
-  }
+  })
 
   pub ranked-is : Starts t table → {b : Bool} {s : List ℕ} → Outcome t table b s → b ≡ false → Admits t table (record { verdict = verdict.Admitted; ranks = s })
   ranked-is a {b} {s} o h =

@@ -14,21 +14,24 @@ use Rattle.frames.specs.Tables.{kindIn, idIn, countIn, nodeIn}
 use Rattle.pool.specs.Words.{c0In, c1In, c2In}
 use Rattle.kinds.specs.KindBytes as kind
 use Rattle.pool.specs.Pool.{Pool, node, children}
+use Rattle.pool.specs.Shaped.{Shaped}
 use Rattle.pool.specs.Tabled.{Tables, tabled}
 use Rattle.pool.specs.Ranking.{zeros, Later, Leads, State, Follows, AsksVisit, AsksWalk, Ranks, Gives, cycleFound}
 use Rattle.pool.specs.Laws.Members.{member-each}
-use Rattle.pool.specs.Laws.Tabled.{node-count, expression-count, node-at}
+use Rattle.pool.specs.Laws.Tabled.{expression-count}
 use Rattle.pool.proofs.Counts.{zeros-later}
-use Rattle.pool.proofs.Leads.{leads-map, exp-leads, q-leads, q-nowhere, other-nowhere, children-lead, nth-member, children-one, children-two, children-three, counts-up-to-three}
+use Rattle.pool.proofs.Leads.{leads-map, exp-leads, q-leads, q-nowhere, other-nowhere, children-lead, nth-member}
+use Rattle.pool.proofs.Nodes as Nodes
+use Rattle.pool.proofs.Nodes.{child-earlier, count-is, one-child, two-children, three-children, third-count, first-child, second-child, third-child}
 use Rattle.pool.proofs.Ranks.{later-refl, later-ranked, later-trans, follow-less, ranked-not, still}
 
 -- an element of a list is what stands there
-nth-get : (l : List ℕ) (i : ℕ) → i < length l → nth l i ≡ some (getD l i 0)
+pub nth-get : (l : List ℕ) (i : ℕ) → i < length l → nth l i ≡ some (getD l i 0)
 nth-get [] i h = absurd (not-suc-le-zero h)
 nth-get (a ∷ l) zero h = refl
 nth-get (a ∷ l) (suc i) h = nth-get l i (le-of-suc-le-suc h)
 
-nth-past : (l : List ℕ) (i : ℕ) → length l ≤ i → nth l i ≡ none
+pub nth-past : (l : List ℕ) (i : ℕ) → length l ≤ i → nth l i ≡ none
 nth-past [] i h = refl
 nth-past (a ∷ l) zero h = absurd (not-suc-le-zero h)
 nth-past (a ∷ l) (suc i) h = nth-past l i (le-of-suc-le-suc h)
@@ -47,8 +50,8 @@ module _ (t : Tables) (table : List ℕ) where
   regoal f (inr h) = inr (record { state = h .state; later = h .later; goal = f (h .goal) })
 
   module _ {s : List ℕ} {done i : ℕ} (a : AsksWalk t table s done i) where
-    pub inside : i < length (p .nodes)
-    inside = subst (λ n. i < n) (sym (node-count t)) (a .there)
+    inside : i < length (p .nodes)
+    inside = Nodes.inside t (a .state .shaped) (a .there)
 
     pub room : i < 4096
     room = omega (arith, a .there, a .state .fewNodes)
@@ -57,7 +60,7 @@ module _ (t : Tables) (table : List ℕ) where
     x = node p i
 
     is : x ≡ nodeIn (t .nodes) (t .literals) i
-    is = node-at t i (a .there)
+    is = Nodes.is t (a .state .shaped) (a .there)
 
     module _ {k : ℕ} (ke : k ≡ kindIn (t .nodes) i) where
       kind-is : x .kind ≡ k
@@ -108,80 +111,42 @@ module _ (t : Tables) (table : List ℕ) where
 
     -- an operation
     module _ {c : ℕ} (ce : c ≡ countIn (t .nodes) i) (some : c ≡ 0 → ⊥) where
-      count-is : x .count ≡ c
-      count-is = ap (λ y. y .count) is ∙ sym ce
-
       by-children : (Q : ℕ → Type 0) → Leads t table Q i ↔ Each (Leads t table Q) (children x)
-      by-children Q = children-lead p table (a .state .shaped) i inside Q (λ z. some (sym count-is ∙ z))
-
-      pub at-most-three : c ≤ 3
-      at-most-three = subst (λ n. n ≤ 3) (sym (a .state .shaped .counts i inside) ∙ count-is) (counts-up-to-three (x .kind))
+      by-children Q = children-lead p table (a .state .shaped) i inside Q (λ z. some (sym (count-is t (a .state .shaped) (a .there) ce) ∙ z))
 
       -- a child, after what was ranked for those before it
       module _ (j : ℕ) (m : Member j (children x)) where
-        pub child-earlier : j < i
-        child-earlier = member-each (λ d. d < i) (children x) (a .state .shaped .earlier i inside) j m
+        earlier : j < i
+        earlier = child-earlier t (a .state .shaped) (a .there) j m
 
         pub child-asks : {s1 : List ℕ} {r : ℕ} → State t table s1 r → Later s s1 → AsksWalk t table s1 r j
         child-asks {s1} st l = record {
           state = st;
-          there = omega (arith, child-earlier, a .there);
+          there = omega (arith, earlier, a .there);
           follows =
               leads-map p table (a .state .shaped) (Follows t table s) (Follows t table s1) (follow-less t table s s1 l) j
               (member-each (Leads t table (Follows t table s)) (children x) (by-children (Follows t table s) .0 (a .follows)) j m);
         }
 
         pub child-less : {s1 : List ℕ} {r : ℕ} → State t table s1 r → Later s s1 → zeros s1 * 4097 + (j + 1) < zeros s * 4097 + (i + 1)
-        child-less {s1} st l = omega (arith, child-earlier, zeros-later s s1 (st .size ∙ sym (a .state .size)) l)
+        child-less {s1} st l = omega (arith, earlier, zeros-later s s1 (st .size ∙ sym (a .state .size)) l)
 
       still-ranked : (s1 s2 : List ℕ) → Later s1 s2 → (j : ℕ) → Ranked s1 j → Ranked s2 j
       still-ranked s1 s2 l j h = leads-map p table (a .state .shaped) (λ u. 2 ≤ getD s1 u 0) (λ u. 2 ≤ getD s2 u 0) (later-ranked s1 s2 l) j h
 
-      children-are : (n : ℕ) → c ≡ n → x .count ≡ n
-      children-are n h = count-is ∙ h
+      abbrev S : Shaped p
+      S = a .state .shaped
 
-      one-child : c ≡ 1 → children x ≡ c0In (t .nodes) i ∷ []
-      one-child h = children-one x (children-are 1 h) ∙ ap (λ (y : Node). y .c0 ∷ []) is
-
-      two-children : c ≡ 2 → children x ≡ c0In (t .nodes) i ∷ c1In (t .nodes) i ∷ []
-      two-children h = children-two x (children-are 2 h) ∙ ap (λ (y : Node). y .c0 ∷ y .c1 ∷ []) is
-
-      three-children : c ≡ 3 → children x ≡ c0In (t .nodes) i ∷ c1In (t .nodes) i ∷ c2In (t .nodes) i ∷ []
-      three-children h = children-three x (children-are 3 h) ∙ ap (λ (y : Node). y .c0 ∷ y .c1 ∷ y .c2 ∷ []) is
-
-      -- one of three counts
-      abbrev Count : Type 0
-      Count = (c ≡ 1) ⊎ ((c ≡ 2) ⊎ (c ≡ 3))
-
-      which : Count
-      which = go c refl
-        where
-          go : (n : ℕ) → c ≡ n → Count
-          go zero q = absurd (some q)
-          go (suc zero) q = inl q
-          go (suc (suc zero)) q = inr (inl q)
-          go (suc (suc (suc zero))) q = inr (inr q)
-          go (suc (suc (suc (suc n)))) q = absurd (omega (arith, at-most-three, q))
-
-      pub first-child : {j : ℕ} → j ≡ c0In (t .nodes) i → Member j (children x)
-      first-child q = ⊎-elim (λ h. rw (one-child h) (inl (sym q))) (λ w. ⊎-elim (λ h. rw (two-children h) (inl (sym q))) (λ h. rw (three-children h) (inl (sym q))) w) which
-
-      pub second-child : (c ≡ 1 → ⊥) → {j : ℕ} → j ≡ c1In (t .nodes) i → Member j (children x)
-      second-child n q = ⊎-elim (λ h. absurd (n h)) (λ w. ⊎-elim (λ h. rw (two-children h) (inr (inl (sym q)))) (λ h. rw (three-children h) (inr (inl (sym q)))) w) which
-
-      third-count : (c ≡ 1 → ⊥) → (c ≡ 2 → ⊥) → c ≡ 3
-      third-count n m = ⊎-elim (λ h. absurd (n h)) (λ w. ⊎-elim (λ h. absurd (m h)) (λ h. h) w) which
-
-      pub third-child : (c ≡ 1 → ⊥) → (c ≡ 2 → ⊥) → {j : ℕ} → j ≡ c2In (t .nodes) i → Member j (children x)
-      third-child n m q = rw (three-children (third-count n m)) (inr (inr (inl (sym q))))
+      abbrev T : i < t .nodeCount
+      T = a .there
 
       -- the first child, then the second, then the third, each after what was ranked for those before it
       module _ {j0 : ℕ} (q0 : j0 ≡ c0In (t .nodes) i) where
         pub asks0 : AsksWalk t table s done j0
-        asks0 = child-asks j0 (first-child q0) (a .state) (later-refl s)
+        asks0 = child-asks j0 (first-child t S T ce some q0) (a .state) (later-refl s)
 
         pub less0 : zeros s * 4097 + (j0 + 1) < zeros s * 4097 + (i + 1)
-        less0 = child-less j0 (first-child q0) (a .state) (later-refl s)
+        less0 = child-less j0 (first-child t S T ce some q0) (a .state) (later-refl s)
 
         module _ {s1 : List ℕ} {r1 : ℕ} (g1 : Gives t table s s1 r1 (Ranked s1 j0)) (n1 : r1 ≡ cycleFound → ⊥) where
           k1 : Ranks t table s s1 r1 (Ranked s1 j0)
@@ -191,15 +156,15 @@ module _ (t : Tables) (table : List ℕ) where
           one-gives h = inr (record {
             state = k1 .state;
             later = k1 .later;
-            goal = by-children (λ u. 2 ≤ getD s1 u 0) .1 (rw (one-child h) (subst (Ranked s1) q0 (k1 .goal), tt));
+            goal = by-children (λ u. 2 ≤ getD s1 u 0) .1 (rw (one-child t S T ce h) (subst (Ranked s1) q0 (k1 .goal), tt));
           })
 
           module _ (more1 : c ≡ 1 → ⊥) {j1 : ℕ} (q1 : j1 ≡ c1In (t .nodes) i) where
             pub asks1 : AsksWalk t table s1 r1 j1
-            asks1 = child-asks j1 (second-child more1 q1) (k1 .state) (k1 .later)
+            asks1 = child-asks j1 (second-child t S T ce some more1 q1) (k1 .state) (k1 .later)
 
             pub less1 : zeros s1 * 4097 + (j1 + 1) < zeros s * 4097 + (i + 1)
-            less1 = child-less j1 (second-child more1 q1) (k1 .state) (k1 .later)
+            less1 = child-less j1 (second-child t S T ce some more1 q1) (k1 .state) (k1 .later)
 
             module _ {s2 : List ℕ} {r2 : ℕ} (g2 : Gives t table s1 s2 r2 (Ranked s2 j1)) (n2 : r2 ≡ cycleFound → ⊥) where
               k2 : Ranks t table s1 s2 r2 (Ranked s2 j1)
@@ -214,15 +179,15 @@ module _ (t : Tables) (table : List ℕ) where
                 later = later2;
                 goal =
                     by-children (λ u. 2 ≤ getD s2 u 0) .1
-                    (rw (two-children h) (subst (Ranked s2) q0 (still-ranked s1 s2 (k2 .later) j0 (k1 .goal)), (subst (Ranked s2) q1 (k2 .goal), tt)));
+                    (rw (two-children t S T ce h) (subst (Ranked s2) q0 (still-ranked s1 s2 (k2 .later) j0 (k1 .goal)), (subst (Ranked s2) q1 (k2 .goal), tt)));
               })
 
               module _ (more2 : c ≡ 2 → ⊥) {j2 : ℕ} (q2 : j2 ≡ c2In (t .nodes) i) where
                 pub asks2 : AsksWalk t table s2 r2 j2
-                asks2 = child-asks j2 (third-child more1 more2 q2) (k2 .state) later2
+                asks2 = child-asks j2 (third-child t S T ce some more1 more2 q2) (k2 .state) later2
 
                 pub less2 : zeros s2 * 4097 + (j2 + 1) < zeros s * 4097 + (i + 1)
-                less2 = child-less j2 (third-child more1 more2 q2) (k2 .state) later2
+                less2 = child-less j2 (third-child t S T ce some more1 more2 q2) (k2 .state) later2
 
                 pub three-gives : {s3 : List ℕ} {r3 : ℕ} → Gives t table s2 s3 r3 (Ranked s3 j2) → Gives t table s s3 r3 (Ranked s3 i)
                 three-gives (inl h) = inl h
@@ -231,7 +196,7 @@ module _ (t : Tables) (table : List ℕ) where
                   later = later-trans s s2 s3 later2 (k .later);
                   goal =
                       by-children (λ u. 2 ≤ getD s3 u 0) .1
-                      (rw (three-children (third-count more1 more2)) (
+                      (rw (three-children t S T ce (third-count t S T ce some more1 more2)) (
                         subst (Ranked s3) q0 (still-ranked s2 s3 (k .later) j0 (still-ranked s1 s2 (k2 .later) j0 (k1 .goal))),
                         (subst (Ranked s3) q1 (still-ranked s2 s3 (k .later) j1 (k2 .goal)), (subst (Ranked s3) q2 (k .goal), tt)),
                       ));

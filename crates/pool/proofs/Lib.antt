@@ -1,11 +1,15 @@
 pub mod Counts
 pub mod Leads
+pub mod Nodes
 pub mod Ranks
 pub mod Children
 pub mod Late
 pub mod Firsts
 pub mod Tally
 pub mod AllRanks
+pub mod Marks
+pub mod Spread
+pub mod Reaches
 pub mod Shapes
 pub mod Admits
 pub mod Numbers

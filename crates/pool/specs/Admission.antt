@@ -5,6 +5,7 @@ use mathlib.Core.Path.{_≡_}
 use mathlib.Core.Bool.{Bool, false, not, _&&_, _||_, cond}
 use mathlib.Core.Option.{Option, none, some}
 use mathlib.Core.List.{List, [], _∷_}
+use mathlib.Core.Logic.{_⊎_}
 use lib.ListN.{length}
 use lib.Dec.{eqb, leb}
 use Rattle.meaning.specs.Refusals.{Refusal, Answer, done, refused, _then_}
@@ -88,6 +89,24 @@ pub data Walk (p : Pool) (table : List ℕ) : ℕ → ℕ → Type 0 where
 -- REFUSAL 4: a walk that comes back to where it began
 abbrev pub ClosedWalk : Pool → List ℕ → Type 0
 ClosedWalk p table = (e : ℕ) × Walk p table e e
+
+-- node n is a leaf of an expression that leads to u, which is that expression or leads on to it
+pub record LeadsBack (p : Pool) (table : List ℕ) (u n : ℕ) : Type 0 where
+  pub expression : ℕ
+  pub source : expression < length (p .expressions)
+  pub leaf : Leaf
+  pub stands : Member (leaf at n) (leaves (tree p (rootOf p expression)))
+  pub leads : leadsTo table (leaf at n) ≡ some u
+  pub back : (u ≡ expression) ⊎ Walk p table u expression
+
+-- a leaf on a cycle
+abbrev pub OnCycle : Pool → List ℕ → ℕ → Type 0
+OnCycle p table n = (u : ℕ) × LeadsBack p table u n
+
+-- THE NODE TO BLAME for refusal 4: the smallest leaf on a cycle
+pub record FirstOnCycle (p : Pool) (table : List ℕ) (n : ℕ) : Type 0 where
+  pub on : OnCycle p table n
+  pub least : (m : ℕ) → m < n → OnCycle p table m → ⊥
 
 -- ranks that fall along every leaf, below the number of expressions
 pub record Ranked (p : Pool) (table : List ℕ) (rank : ℕ → ℕ) : Type 0 where

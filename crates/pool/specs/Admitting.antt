@@ -30,7 +30,7 @@ abbrev pub verdictSays : Verdict → Answer (Unit {0})
 verdictSays (verdict.ChildCount n) = refused Refusal.childCount (some n)
 verdictSays (verdict.NotThere n) = refused Refusal.notThere (some n)
 verdictSays verdict.LostRoot = refused Refusal.notThere none
-verdictSays verdict.Cycle = refused Refusal.cycle none
+verdictSays (verdict.Cycle n) = refused Refusal.cycle (some n)
 verdictSays verdict.Admitted = done tt
 
 -- within the limits, and the table's expressions are there

@@ -12,15 +12,13 @@ use Rattle.pool.specs.Pool.{Pool}
 use Rattle.pool.specs.Trees.{forest}
 use Rattle.pool.specs.Shaped.{Shaped}
 use Rattle.pool.specs.Admission.{shape, ClosedWalk, Ranked}
-use Rattle.pool.specs.Verdict.{SomeWrongCount, SomeNotThere, Verdict}
+use Rattle.pool.specs.Verdict.{SomeWrongCount, SomeNotThere, Ends, Verdict}
 use Rattle.pool.specs.Laws.Shape.{Shape, shape-is, shaped-counts, shaped-there}
 use Rattle.pool.specs.Laws.Walks.{no-closed-walk}
+use Rattle.pool.specs.Laws.Cycles.{on-closed, one-first}
 use Rattle.pool.specs.Laws.Forest.{forest-acyclic, acyclic-ranked}
 
 module _ (p : Pool) (table : List ℕ) where
-  abbrev Ends : Answer (Unit {0}) → Type 0
-  Ends a = ((a ≡ refused Refusal.cycle none) × ClosedWalk p table) ⊎ ((a ≡ done tt) × ((rank : ℕ → ℕ) × Ranked p table rank))
-
   -- what can be said of a pool and its answer: one of four
   pub data Case (a : Answer (Unit {0})) : Type 0 where
     two : SomeWrongCount p → answerNo a ≡ 2 → Case a
@@ -31,8 +29,8 @@ module _ (p : Pool) (table : List ℕ) where
   pub cases : (a : Answer (Unit {0})) → Verdict p table a → Case a
   cases a v = go (shape p) refl (shape-is p)
     where
-      end : Shaped p → Ends a → Case a
-      end s (inl h) = four s (h .1) (ap answerNo (h .0))
+      end : Shaped p → Ends p table a → Case a
+      end s (inl h) = four s (on-closed p table (h .2 .on)) (ap answerNo (h .1))
       end s (inr h) = admitted s (h .1 .0) (h .1 .1) (ap answerNo (h .0))
 
       go : (s : Answer (Unit {0})) → shape p ≡ s → Shape p s → Case a
@@ -93,10 +91,10 @@ module _ (p : Pool) (table : List ℕ) where
   pub one-answer : (a b : Answer (Unit {0})) → Verdict p table a → Verdict p table b → a ≡ b
   one-answer a b v w = go (shape p) refl
     where
-      both : Ends a → Ends b → a ≡ b
-      both (inl h) (inl k) = h .0 ∙ sym (k .0)
-      both (inl h) (inr k) = absurd (no-closed-walk p table (k .1 .0) (k .1 .1) (h .1))
-      both (inr h) (inl k) = absurd (no-closed-walk p table (h .1 .0) (h .1 .1) (k .1))
+      both : Ends p table a → Ends p table b → a ≡ b
+      both (inl h) (inl k) = h .1 ∙ ap (λ n. refused Refusal.cycle (some n)) (one-first p table (h .2) (k .2)) ∙ sym (k .1)
+      both (inl h) (inr k) = absurd (no-closed-walk p table (k .1 .0) (k .1 .1) (on-closed p table (h .2 .on)))
+      both (inr h) (inl k) = absurd (no-closed-walk p table (h .1 .0) (h .1 .1) (on-closed p table (k .2 .on)))
       both (inr h) (inr k) = h .0 ∙ sym (k .0)
 
       go : (s : Answer (Unit {0})) → shape p ≡ s → a ≡ b

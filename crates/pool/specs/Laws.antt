@@ -3,6 +3,7 @@ pub mod First
 pub mod Trees
 pub mod Shape
 pub mod Walks
+pub mod Cycles
 pub mod Forest
 pub mod Tabled
 pub mod Names

@@ -7,6 +7,7 @@ pub mod Verdict
 pub mod Tabled
 pub mod Shapes
 pub mod Ranking
+pub mod Cycles
 pub mod Admitting
 pub mod Laws
 pub mod Exactly

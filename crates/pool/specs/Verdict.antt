@@ -2,7 +2,7 @@
 -- Assumes nothing: these are definitions.
 use Prim.Native.Nat.{ℕ, _<_, _≤_}
 use mathlib.Core.Path.{_≡_}
-use mathlib.Core.Option.{Option, none}
+use mathlib.Core.Option.{Option, some}
 use mathlib.Core.List.{List}
 use mathlib.Core.Logic.{_⊎_}
 use lib.ListN.{length}
@@ -11,7 +11,7 @@ use Rattle.meaning.specs.Refusals.{Refusal, Answer, done, refused}
 use Rattle.kinds.specs.KindBytes as kind
 use Rattle.kinds.specs.Kinds.{childCount}
 use Rattle.pool.specs.Pool.{Pool, node, rootOf, children, uses, times}
-use Rattle.pool.specs.Admission.{shape, ClosedWalk, Ranked}
+use Rattle.pool.specs.Admission.{shape, FirstOnCycle, Ranked}
 
 module _ (p : Pool) where
   -- 2: some node's child count differs from the table
@@ -37,7 +37,10 @@ module _ (p : Pool) where
   abbrev pub SomeNotThere : Type 0
   SomeNotThere = SomeLateChild ⊎ (SomeUsedTwice ⊎ (SomeLostLeaf ⊎ SomeLostRoot))
 
-  -- THE VERDICT on a pool and a table from q numbers to expressions: 2 and 3 as `shape` computes them; then 4, or ranks.
+  -- THE VERDICT on a pool and a table from q numbers to expressions: 2 and 3 as `shape` computes them; then 4 with the smallest leaf on a cycle, or ranks.
+  abbrev pub Ends : List ℕ → Answer (Unit {0}) → Type 0
+  Ends table a = ((n : ℕ) × (a ≡ refused Refusal.cycle (some n)) × FirstOnCycle p table n) ⊎ ((a ≡ done tt) × ((rank : ℕ → ℕ) × Ranked p table rank))
+
   pub record Verdict (table : List ℕ) (a : Answer (Unit {0})) : Type 0 where
     pub refuses : (r : Refusal) (n : Option ℕ) → shape p ≡ refused r n → a ≡ refused r n
-    pub decides : shape p ≡ done tt → ((a ≡ refused Refusal.cycle none) × ClosedWalk p table) ⊎ ((a ≡ done tt) × ((rank : ℕ → ℕ) × Ranked p table rank))
+    pub decides : shape p ≡ done tt → Ends table a

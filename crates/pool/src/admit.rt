@@ -1,4 +1,5 @@
 // Admission of a pool: refusals 2, 3 and 4, each over the whole pool, in that order.
+use crate::cycle::first_on_cycle;
 use crate::rank::rank_all;
 use crate::shape::Found;
 use crate::shape::Rule;
@@ -28,7 +29,7 @@ pub enum Verdict {
     ChildCount(usize),
     NotThere(usize),
     LostRoot,
-    Cycle,
+    Cycle(usize),
     Admitted,
 }
 
@@ -87,10 +88,8 @@ fn ranked(
     let ranking = rank_all(nodes, expressions, table, m);
     let ranks = ranking.ranks;
     if ranking.cyclic {
-        return Admission {
-            verdict: Verdict::Cycle,
-            ranks: [0u64; EXPRESSION_LIMIT],
-        };
+        let leaf = first_on_cycle(nodes, expressions, table, m);
+        return refused(Verdict::Cycle(leaf));
     }
     Admission {
         verdict: Verdict::Admitted,

@@ -1,5 +1,6 @@
 // Pools: admission, and ranks of expressions.
 pub mod admit;
+pub mod cycle;
 pub mod number;
 pub mod rank;
 pub mod shape;

@@ -26,7 +26,7 @@ fn verdict_number(verdict: Verdict) -> u8
         Verdict::ChildCount(_) => CHILD_COUNT,
         Verdict::NotThere(_) => NOT_THERE,
         Verdict::LostRoot => NOT_THERE,
-        Verdict::Cycle => CYCLE,
+        Verdict::Cycle(_) => CYCLE,
         Verdict::Admitted => NONE,
     }
 }

@@ -3,7 +3,7 @@
 use Prim.Native.Nat.{ℕ, zero, suc, _<_}
 use mathlib.Core.Path.{_≡_, refl, sym, _∙_, ap, ap₂, subst}
 use mathlib.Core.Bool.{Bool, true, false}
-use mathlib.Core.List.{List, [], _∷_, _++_}
+use mathlib.Core.List.{List, [], _∷_, _++_, append-nil}
 use mathlib.Core.Logic.{_↔_}
 use native.Mathlib.Omega.{arith}
 use lib.ListN.{length}
@@ -56,6 +56,11 @@ arity-is k = go (ltb k 8) refl
     go : (b : Bool) → ltb k 8 ≡ b → arity (class k) ≡ childCount k
     go true h = eqb→eq _ _ (pass same 8 0 small k (omega (arith, ltb-true k 8 h)))
     go false h = let l : 7 < k = ltb-false k 8 h in ap arity (class-leafy k l) ∙ sym (large l)
+
+-- the leaves of these nodes' trees, from left to right
+abbrev pub leavesOf : Pool → List ℕ → List Placed
+leavesOf p [] = []
+leavesOf p (c ∷ cs) = leaves (tree p c) ++ leavesOf p cs
 
 module _ (p : Pool) (shaped : Shaped p) where
   -- the children of a node by its class
@@ -132,6 +137,17 @@ module _ (p : Pool) (shaped : Shaped p) where
       Each P (leaves (tree p n)) ↔ AllUnder P (children (node p n))
   leaves-under P n h o =
       rw (tree-is n h, children-are n h) (grown-leaves P (class (node p n .kind)) n (node p n) o)
+
+  grown-leaves-are : (c : Class) (n : ℕ) (x : Node) → (c ≡ leafy → ⊥) → leaves (grown c (tree p) n x) ≡ leavesOf p (ChildrenOf c x)
+  grown-leaves-are (binary o) n x h = ap (λ z. leaves (tree p (x .c0)) ++ z) (sym (append-nil (leaves (tree p (x .c1)))))
+  grown-leaves-are fused n x h = ap (λ z. leaves (tree p (x .c0)) ++ (leaves (tree p (x .c1)) ++ z)) (sym (append-nil (leaves (tree p (x .c2)))))
+  grown-leaves-are (constant o) n x h = sym (append-nil (leaves (tree p (x .c0))))
+  grown-leaves-are negation n x h = sym (append-nil (leaves (tree p (x .c0))))
+  grown-leaves-are leafy n x h = absurd (h refl)
+
+  -- and in that order
+  pub leaves-are : (n : ℕ) → n < length (p .nodes) → (class (node p n .kind) ≡ leafy → ⊥) → leaves (tree p n) ≡ leavesOf p (children (node p n))
+  leaves-are n h o = ap leaves (tree-is n h) ∙ grown-leaves-are (class (node p n .kind)) n (node p n) o ∙ ap (leavesOf p) (sym (children-are n h))
 
   -- A LEAF'S TREE is that leaf
   pub leaf-is : (n : ℕ) → n < length (p .nodes) → class (node p n .kind) ≡ leafy → tree p n ≡ Expr.leaf n (leafOf (node p n))
