@@ -68,7 +68,7 @@ module _ (room at t jobs steps : ℕ) where
   unfolding hasRoom
   room-there h g = rw (le-leb (stepSize * (at + steps)) room h, lt-ltb (t + (steps - jobs)) numberLimit g)
 
-each-first : {B : Type 0} (P : B → Type 0) (g : ℕ → B) (n : ℕ) → ((k : ℕ) → k < n → P (g k)) → Each P (first g n)
+pub each-first : {B : Type 0} (P : B → Type 0) (g : ℕ → B) (n : ℕ) → ((k : ℕ) → k < n → P (g k)) → Each P (first g n)
 unfolding first
 each-first P g zero h = tt
 each-first P g (suc n) h = each-join P (first g n) (g n ∷ []) (each-first P g n (λ k l. h k (omega arith))) (h n (omega arith), tt)

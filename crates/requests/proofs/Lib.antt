@@ -2,3 +2,4 @@
 pub mod Plans
 pub mod Makes
 pub mod Generates
+pub mod Wholes

@@ -2,3 +2,4 @@
 pub mod Planning
 pub mod Making
 pub mod Generating
+pub mod Whole

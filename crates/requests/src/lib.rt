@@ -2,3 +2,4 @@
 pub mod generate;
 pub mod make;
 pub mod plan;
+pub mod whole;
