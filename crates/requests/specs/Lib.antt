@@ -3,3 +3,5 @@ pub mod Planning
 pub mod Making
 pub mod Generating
 pub mod Whole
+pub mod Runs
+pub mod Reads

@@ -2,4 +2,5 @@
 pub mod generate;
 pub mod make;
 pub mod plan;
+pub mod run;
 pub mod whole;
