@@ -32,6 +32,7 @@ use Rattle.starkinfo_codegen.specs.Totals.{counter-is}
 use Rattle.requests.specs.Planning.{requestAt, requestsIn, Adds, Says}
 use Rattle.requests.specs.Making.{Held, JobThere, stepsFrom, allSteps, JobsAsk, SizeIs, Room}
 use Rattle.requests.specs.Generating.{numberLimit, hasRoom, Fits, Makes, Overflows, GenerateAsks}
+use Rattle.requests.specs.Serving.{each-first}
 use Rattle.requests.specs.declared.plan.Plan.{Plan}
 use Rattle.requests.specs.declared.plan.Plan.the-variants as plan
 use Rattle.requests.proofs.Makes.{steps-count}
@@ -67,11 +68,6 @@ module _ (room at t jobs steps : ℕ) where
   room-there : stepSize * (at + steps) ≤ room → t + (steps - jobs) < numberLimit → hasRoom room at t jobs steps ≡ true
   unfolding hasRoom
   room-there h g = rw (le-leb (stepSize * (at + steps)) room h, lt-ltb (t + (steps - jobs)) numberLimit g)
-
-pub each-first : {B : Type 0} (P : B → Type 0) (g : ℕ → B) (n : ℕ) → ((k : ℕ) → k < n → P (g k)) → Each P (first g n)
-unfolding first
-each-first P g zero h = tt
-each-first P g (suc n) h = each-join P (first g n) (g n ∷ []) (each-first P g n (λ k l. h k (omega arith))) (h n (omega arith), tt)
 
 -- ── jobs that were planned ───────────────────────────────────────────────────
 module _ (w x : List ℕ) (b : Rest) (A : Acyclic (forest (poolOf w b))) {r s j : List ℕ} {m count at t : ℕ} (a : GenerateAsks w x b A r s j m count at t) where

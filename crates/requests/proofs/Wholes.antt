@@ -17,7 +17,7 @@ use Rattle.meaning.specs.Generation.{Request, start, make, adding, serveAll}
 use Rattle.meaning.specs.Building.{Segment, segment}
 use Rattle.meaning.specs.Building as meaning
 use Rattle.meaning.specs.Demand3.{NoResult}
-use Rattle.meaning.specs.Asking.{askAll, serveAll-asks}
+use Rattle.meaning.specs.Asking.{askAll}
 use Rattle.meaning.specs.Laws.Tests.{true-false, and-left, and-right}
 use Rattle.meaning.specs.Laws.Once.{all-found}
 use Rattle.kinds.specs.Steps.{stepSize}
@@ -44,7 +44,7 @@ use Rattle.requests.specs.declared.generate.Generation.{Generation}
 use Rattle.requests.specs.declared.generate.Generation.the-variants as generation
 use Rattle.requests.specs.declared.whole.Whole.{Whole}
 use Rattle.requests.specs.declared.whole.Whole.the-variants as whole
-use Rattle.requests.proofs.Generates.{each-first}
+use Rattle.requests.specs.Serving.{each-first, whole-asks}
 
 pub replicate-zero : (n c : ℕ) → _≡_ {A = ℕ} (getD (replicate n 0) c 0) 0
 replicate-zero zero c = refl
@@ -53,21 +53,14 @@ replicate-zero (suc n) (suc c) = replicate-zero n c
 
 -- ── requests on a fresh context ──────────────────────────────────────────────
 module _ (E : Forest) (qs : List Request) (h : Each NoResult qs) where
-  whole-asks : meaning.whole 2 E qs ≡ (askAll 2 E qs unmarked then λ a. done (segment E (adding E a start)))
-  whole-asks = ap (λ (z : Answer _). z then λ st. done (segment E st)) (serveAll-asks 2 E qs h start) ∙ go (askAll 2 E qs unmarked)
-    where
-      go : (z : Answer Asked) → ((z then λ a. done (adding E a start)) then λ st. done (segment E st)) ≡ (z then λ a. done (segment E (adding E a start)))
-      go (done a) = refl
-      go (refused k o) = refl
-
   pub served-refused : {k : Refusal} {o : Option ℕ} (room : ℕ) → askAll 2 E qs unmarked ≡ refused k o → served E qs room ≡ refused k o
-  served-refused room e = ap (λ (z : Answer Segment). z then fitting room) whole-asks ∙ rw e
+  served-refused room e = ap (λ (z : Answer Segment). z then fitting room) (whole-asks E qs h) ∙ rw e
 
   abbrev seg : List Job → Marks → Segment
   seg js m = segment E (adding E (record { jobs = js; marks = m }) start)
 
   served-done : {js : List Job} {m : Marks} (room : ℕ) → askAll 2 E qs unmarked ≡ done (record { jobs = js; marks = m }) → served E qs room ≡ fitting room (seg js m)
-  served-done room e = ap (λ (z : Answer Segment). z then fitting room) whole-asks ∙ rw e
+  served-done room e = ap (λ (z : Answer Segment). z then fitting room) (whole-asks E qs h) ∙ rw e
 
   fits-done : (js : List Job) (m : Marks) (room : ℕ) → Fits E js 0 0 room → fitting room (seg js m) ≡ done (seg js m)
   fits-done js m room f =

@@ -5,3 +5,5 @@ pub mod Generating
 pub mod Whole
 pub mod Runs
 pub mod Reads
+pub mod Serving
+pub mod Demand3
