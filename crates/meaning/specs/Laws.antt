@@ -12,3 +12,4 @@ pub mod Levels
 pub mod Again
 pub mod Unfused
 pub mod Once
+pub mod Evaluations
