@@ -13,3 +13,5 @@ pub mod Again
 pub mod Unfused
 pub mod Once
 pub mod Evaluations
+pub mod Standing
+pub mod Serving
