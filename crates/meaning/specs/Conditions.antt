@@ -84,6 +84,10 @@ module _ (rows : ℕ) (E : Forest) where
     pub asks : AsksResult q
     pub noBlock : Stands (q .expression) (q .row) (st .blocks) → ⊥
 
+  -- none of the four
+  abbrev pub NotRefused : Request → State → Type 0
+  NotRefused q st = (Refused3 q st → ⊥) × (Refused5 q st → ⊥) × (Refused7 q st → ⊥) × (Refused8 q st → ⊥)
+
   -- ── a list of requests ─────────────────────────────────────────────────────
   -- some request meets the condition after those before it were served
   pub record FirstRefused (condition : Request → State → Type 0) (qs : List Request) (st : State) : Type 0 where
@@ -94,3 +98,25 @@ module _ (rows : ℕ) (E : Forest) where
     pub state : State
     pub served : serveAll rows E before st ≡ done state
     pub meets : condition request state
+
+  -- none is refused
+  abbrev pub NoneRefused : List Request → State → Type 0
+  NoneRefused qs st =
+      (FirstRefused Refused3 qs st → ⊥) × (FirstRefused Refused5 qs st → ⊥) × (FirstRefused Refused7 qs st → ⊥) × (FirstRefused Refused8 qs st → ⊥)
+
+-- ── two rows ─────────────────────────────────────────────────────────────────
+-- a cm, const, exp or q leaf with next
+abbrev pub WithNext : Leaf → Type 0
+WithNext (Leaf.cell k i a) = a ≡ 1
+WithNext (Leaf.exp i a) = a ≡ 1
+WithNext (Leaf.number l) = ⊥
+WithNext (Leaf.flat k i) = ⊥
+WithNext (Leaf.x k) = ⊥
+
+-- next is absent or true, as document 01 has it
+abbrev pub NextAtMostOne : Leaf → Type 0
+NextAtMostOne (Leaf.cell k i a) = a ≤ 1
+NextAtMostOne (Leaf.exp i a) = a ≤ 1
+NextAtMostOne (Leaf.number l) = Unit {0}
+NextAtMostOne (Leaf.flat k i) = Unit {0}
+NextAtMostOne (Leaf.x k) = Unit {0}

@@ -15,3 +15,4 @@ pub mod Once
 pub mod Evaluations
 pub mod Standing
 pub mod Serving
+pub mod First

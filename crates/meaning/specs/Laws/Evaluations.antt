@@ -3,22 +3,22 @@
 -- Assumes nothing.
 use Prim.Native.Nat.{ℕ, zero, suc, _+_, _<_}
 use mathlib.Core.Path.{_≡_, refl, sym, _∙_, ap, subst}
-use mathlib.Core.Bool.{Bool, true, false, _&&_, _||_, cond}
+use mathlib.Core.Bool.{Bool, true, false, _&&_, cond}
 use mathlib.Core.Option.{Option, none, some, Option·some-injective}
-use mathlib.Core.List.{List, [], _∷_, _++_}
-use mathlib.Core.Logic.{_⊎_, inl, inr, ⊎-elim, _↔_}
+use mathlib.Core.List.{List, [], _∷_}
+use mathlib.Core.Logic.{_⊎_, inl, inr, ⊎-elim}
 use native.Mathlib.Omega.{arith}
 use lib.ListN.{length}
 use lib.Dec.{eqb}
 use borrow.Author.Tests.{eqb-true, ltb-true}
-use Rattle.meaning.specs.Refusals.{Refusal, number, Answer, done, refused, answerNo, _then_}
+use Rattle.meaning.specs.Refusals.{Refusal, Answer, done, refused, _then_}
 use Rattle.meaning.specs.Trees.{Leaf, Expression, Forest, Acyclic, nth, Placed, _at_, leaves, Each, Member}
 use Rattle.meaning.specs.Order.{Marks, marking, Job, Asked, nothing, asked, there, inRows, primed, own, askLeaf, askLeaves, fresh, askBelow, ask}
 use Rattle.meaning.specs.Conditions.{Evaluated, DoublePrime}
 use Rattle.meaning.specs.Laws.Tests.{true-false, not-true, and-left, and-right, done-not-refused, each-map}
 use Rattle.meaning.specs.Laws.Fuse.{asked-leaves}
 use Rattle.meaning.specs.Laws.Levels.{then-refused, asks-refuse-5}
-use Rattle.meaning.specs.Laws.Jobs.{after, after-grows, there-some, InRows, DepMarked, dep-after, Fine, AllFine, Gives, grown, Asks, Sound, primed-in, leaf-sound, ask-sound, asks}
+use Rattle.meaning.specs.Laws.Jobs.{after, there-some, InRows, DepMarked, dep-after, AllFine, Gives, grown, Asks, Sound, primed-in, leaf-sound, ask-sound, asks}
 
 -- ── members ──────────────────────────────────────────────────────────────────
 pub each-member : {A : Type 0} (P : A → Type 0) (xs : List A) → Each P xs → (a : A) → Member a xs → P a

@@ -2,7 +2,7 @@
 -- Assumes nothing.
 use Prim.Native.Nat.{ℕ, _≤_}
 use mathlib.Core.Path.{_≡_, refl, sym, _∙_, ap, subst}
-use mathlib.Core.Bool.{Bool, true, false, _&&_, _||_, cond}
+use mathlib.Core.Bool.{Bool, true, false, _||_, cond}
 use mathlib.Core.Option.{Option, none, some}
 use mathlib.Core.List.{List, [], _∷_, _++_}
 use mathlib.Core.Logic.{inl, inr, _↔_}
@@ -13,12 +13,12 @@ use borrow.Author.Tests.{eqb-true, eq-eqb}
 use Rattle.meaning.specs.Refusals.{done}
 use Rattle.meaning.specs.Trees.{Expression, Forest, nth, Each, Member}
 use Rattle.meaning.specs.Steps.{Cell, Ref, StepOp, Step, step}
-use Rattle.meaning.specs.Order.{Marks, Job, Asked, there, ask}
-use Rattle.meaning.specs.Generation.{Block, State, start, Request, Result, result, makeOne, make, lastDestination, copied, isBlock, onto, before, copyInto, withBlocks, copyOut, plainResult, adding, generate, serve, serveAll}
+use Rattle.meaning.specs.Order.{Job, Asked, there, ask}
+use Rattle.meaning.specs.Generation.{Block, State, start, Request, Result, result, makeOne, make, lastDestination, isBlock, copyInto, withBlocks, copyOut, plainResult, adding, generate, serve, serveAll}
 use Rattle.meaning.specs.Building.{standing, afterBuild}
 use Rattle.meaning.specs.Conditions.{Stands, Stepped}
-use Rattle.meaning.specs.Laws.Tests.{true-false, and-left, and-right, or-right, then-done, done-same, done-not-refused, each-join}
-use Rattle.meaning.specs.Laws.Jobs.{Gives, asks}
+use Rattle.meaning.specs.Laws.Tests.{true-false, and-left, and-right, then-done, done-same, done-not-refused, each-join}
+use Rattle.meaning.specs.Laws.Jobs.{asks}
 use Rattle.meaning.specs.Laws.Evaluations.{Among, new-among}
 
 abbrev pub HasStep : Block → Type 0
