@@ -41,9 +41,12 @@ pub record Stands (e r : ℕ) (bs : List Block) : Type 0 where
   pub expression : block .expression ≡ e
   pub row : block .row ≡ r
 
+abbrev pub HasStep : Block → Type 0
+HasStep b = 1 ≤ length (b .steps)
+
 -- each block of a context has a step. So it is at the start, and requests keep it.
 abbrev pub Stepped : State → Type 0
-Stepped st = Each (λ b. 1 ≤ length (b .steps)) (st .blocks)
+Stepped st = Each HasStep (st .blocks)
 
 -- a result is asked
 abbrev pub AsksResult : Request → Type 0

@@ -15,17 +15,12 @@ use Rattle.meaning.specs.Refusals.{Refusal, Answer, done, refused, _then
 use Rattle.meaning.specs.Trees.{Leaf, Expression, Forest, Acyclic, nth, Placed, _at_, leaves, Each, Member}
 use Rattle.meaning.specs.Order.{Marks, marking, Job, Asked, nothing, asked, there, inRows, primed, own, askLeaf, askLeaves, fresh, askBelow, ask}
 use Rattle.meaning.specs.Conditions.{Evaluated, DoublePrime}
-use Rattle.meaning.specs.Laws.Tests.{true-false, not-true, and-left, and-right, done-not-refused, each-map}
+use Rattle.meaning.specs.Laws.Tests.{true-false, not-true, and-left, and-right, done-not-refused, each-map, each-member}
 use Rattle.meaning.specs.Laws.Fuse.{asked-leaves}
 use Rattle.meaning.specs.Laws.Levels.{then-refused, asks-refuse-5}
 use Rattle.meaning.specs.Laws.Jobs.{after, there-some, InRows, DepMarked, dep-after, AllFine, Gives, grown, Asks, Sound, primed-in, leaf-sound, ask-sound, asks}
 
 -- ── members ──────────────────────────────────────────────────────────────────
-pub each-member : {A : Type 0} (P : A → Type 0) (xs : List A) → Each P xs → (a : A) → Member a xs → P a
-each-member P [] h a k = absurd k
-each-member P (x ∷ xs) h a (inl q) = subst P q (h .0)
-each-member P (x ∷ xs) h a (inr k) = each-member P xs (h .1) a k
-
 members : {A : Type 0} (xs : List A) → Each (λ a. Member a xs) xs
 members [] = tt
 members (x ∷ xs) = (inl refl, each-map (λ a. Member a xs) (λ a. Member a (x ∷ xs)) (λ a k. inr k) xs (members xs))

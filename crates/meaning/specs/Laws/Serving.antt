@@ -4,7 +4,6 @@ use Prim.Native.Nat.{ℕ, zero, suc, _<_, _≤_}
 use mathlib.Core.Path.{_≡_, refl, sym, _∙_}
 use mathlib.Core.Bool.{Bool, true, false, cond}
 use mathlib.Core.Option.{Option, none, some, Option·none-ne-some}
-use mathlib.Core.List.{List, [], _∷_}
 use native.Mathlib.Omega.{arith}
 use lib.ListN.{length}
 use Rattle.meaning.specs.Refusals.{Answer, done, answerNo, _then_}
@@ -13,19 +12,9 @@ use Rattle.meaning.specs.Steps.{Cell, Ref}
 use Rattle.meaning.specs.Order.{Asked, there, ask}
 use Rattle.meaning.specs.Generation.{State, Request, Result, result, copyInto, withBlocks, copyOut, plainResult, adding, generate, serve}
 use Rattle.meaning.specs.Conditions.{Stands, Stepped, AsksResult, Marked, Unmarked, DoublePrimeFor, Refused3, Refused5, Refused7, Refused8}
-use Rattle.meaning.specs.Laws.Tests.{true-false}
+use Rattle.meaning.specs.Laws.Tests.{true-false, nth-below, nth-past}
 use Rattle.meaning.specs.Laws.Evaluations.{Evaluation, evaluation}
 use Rattle.meaning.specs.Laws.Standing.{Copying, copying, adding-stepped, generated-stands}
-
-pub nth-below : {A : Type 0} (l : List A) (n : ℕ) {a : A} → nth l n ≡ some a → n < length l
-nth-below [] n {a} h = absurd (Option·none-ne-some a h)
-nth-below (x ∷ l) zero h = omega arith
-nth-below (x ∷ l) (suc n) h = let k = nth-below l n h in omega arith
-
-pub nth-past : {A : Type 0} (l : List A) (n : ℕ) → nth l n ≡ none → length l ≤ n
-nth-past [] n h = omega arith
-nth-past (x ∷ l) zero h = absurd (Option·none-ne-some x (sym h))
-nth-past (x ∷ l) (suc n) h = let k = nth-past l n h in omega arith
 
 no-result : (q : Request) → q .result ≡ none → AsksResult q → ⊥
 no-result q h w = Option·none-ne-some (w .0) (sym h ∙ w .1)

@@ -16,13 +16,10 @@ use Rattle.meaning.specs.Steps.{Cell, Ref, StepOp, Step, step}
 use Rattle.meaning.specs.Order.{Job, Asked, there, ask}
 use Rattle.meaning.specs.Generation.{Block, State, start, Request, Result, result, makeOne, make, lastDestination, isBlock, copyInto, withBlocks, copyOut, plainResult, adding, generate, serve, serveAll}
 use Rattle.meaning.specs.Building.{standing, afterBuild}
-use Rattle.meaning.specs.Conditions.{Stands, Stepped}
+use Rattle.meaning.specs.Conditions.{Stands, HasStep, Stepped}
 use Rattle.meaning.specs.Laws.Tests.{true-false, and-left, and-right, then-done, done-same, done-not-refused, each-join}
 use Rattle.meaning.specs.Laws.Jobs.{asks}
 use Rattle.meaning.specs.Laws.Evaluations.{Among, new-among}
-
-abbrev pub HasStep : Block → Type 0
-HasStep b = 1 ≤ length (b .steps)
 
 -- ── which block ──────────────────────────────────────────────────────────────
 member-right : {A : Type 0} (xs ys : List A) (a : A) → Member a ys → Member a (xs ++ ys)
