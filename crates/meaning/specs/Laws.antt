@@ -12,3 +12,7 @@ pub mod Levels
 pub mod Again
 pub mod Unfused
 pub mod Once
+pub mod Evaluations
+pub mod Standing
+pub mod Serving
+pub mod First

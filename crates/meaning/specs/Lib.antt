@@ -10,8 +10,10 @@ pub mod Generation
 pub mod Building
 pub mod Demand3
 pub mod Asking
+pub mod Conditions
 pub mod Laws
 pub mod Models
 pub mod Proved
 pub mod Examples
 pub mod Shortcuts
+pub mod Exactly

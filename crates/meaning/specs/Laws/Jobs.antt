@@ -47,7 +47,7 @@ module _ (rows : ℕ) where
   DepMarked m r (Leaf.flat k i at n) = Unit {0}
   DepMarked m r (Leaf.x k at n) = Unit {0}
 
-  dep-after : (m : Marks) (js : List Job) (r : ℕ) (p : Placed) → DepMarked m r p → DepMarked (after m js) r p
+  pub dep-after : (m : Marks) (js : List Job) (r : ℕ) (p : Placed) → DepMarked m r p → DepMarked (after m js) r p
   dep-after m js r (Leaf.cell k i a at n) h = tt
   dep-after m js r (Leaf.exp i a at n) h = after-grows m js i (r + a) h
   dep-after m js r (Leaf.number l at n) h = tt
@@ -96,14 +96,14 @@ module _ (rows : ℕ) where
       new = each-join (New m) (a .jobs) (b .jobs) (g .new) (each-map (New (a .marks)) (New m) (new-before g) (b .jobs) (h .new));
     }
 
-    abbrev Asks : Type 0
+    abbrev pub Asks : Type 0
     Asks = ℕ → ℕ → Marks → Answer Asked
 
     -- what is shown of a way to ask
-    abbrev Sound : Asks → Type 0
+    abbrev pub Sound : Asks → Type 0
     Sound f = (e r : ℕ) (m : Marks) (a : Asked) → f e r m ≡ done a → Gives m a × (a .marks e r ≡ true)
 
-    primed-in : (l : Leaf) (n r : ℕ) {u : Unit {0}} → primed rows l n r ≡ done u → inRows rows l r ≡ true
+    pub primed-in : (l : Leaf) (n r : ℕ) {u : Unit {0}} → primed rows l n r ≡ done u → inRows rows l r ≡ true
     primed-in l n r {u} h = go (inRows rows l r) h
       where
         go : (b : Bool) → cond b (done tt) (refused Refusal.doublePrime (some n)) ≡ done u → b ≡ true
@@ -116,7 +116,7 @@ module _ (rows : ℕ) where
         let x = then-done (primed rows l n r) _ h in
         (primed-in l n r (x .1), own-in ls r (x .2))
 
-    leaf-sound :
+    pub leaf-sound :
         (f : Asks) → Sound f → (l : Leaf) (n r : ℕ) (m : Marks) (a : Asked) → askLeaf rows f l n r m ≡ done a →
         Gives m a × DepMarked (a .marks) r (l at n)
     leaf-sound f S (Leaf.cell k i b) n r m a h = (subst (Gives m) (done-same _ _ h) (gives-nothing m), tt)
@@ -162,7 +162,7 @@ module _ (rows : ℕ) where
         } in
         subst (λ q. Gives m q × (q .marks e r ≡ true)) (done-same _ _ (z .2)) (g, marking-there (y .0 .marks) e r)
 
-    ask-sound : (k : ℕ) (fused : Bool) → Sound (askBelow rows E k fused)
+    pub ask-sound : (k : ℕ) (fused : Bool) → Sound (askBelow rows E k fused)
     ask-sound zero fused e r m a h = absurd (let z : _≡_ {A = ℕ} 0 1 = cc in omega arith)
     ask-sound (suc k) fused e r m a h = go (fresh-sound (askBelow rows E k false) (ask-sound k false) fused e r m) (m e r) refl h
       where

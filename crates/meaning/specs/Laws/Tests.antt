@@ -1,15 +1,17 @@
--- Laws of tests, of answers and of options, used all over.
+-- Laws of tests, of answers, of options and of members of lists, used all over.
 -- Assumes nothing.
-use Prim.Native.Nat.{ℕ}
+use Prim.Native.Nat.{ℕ, zero, suc, _<_, _≤_}
 use mathlib.Core.Path.{_≡_, refl, sym, _∙_, subst}
 use mathlib.Core.Bool.{Bool, true, false, _&&_, _||_}
 use mathlib.Core.Option.{Option, none, some, Option·none-ne-some}
 use mathlib.Core.List.{List, [], _∷_, _++_}
+use mathlib.Core.Logic.{inl, inr}
 use native.Mathlib.Omega.{arith}
+use lib.ListN.{length}
 use lib.Dec.{T, eqb}
 use borrow.Author.Tests.{eq-eqb}
 use Rattle.meaning.specs.Refusals.{Refusal, number, Answer, done, refused, _then_}
-use Rattle.meaning.specs.Trees.{Each}
+use Rattle.meaning.specs.Trees.{nth, Each, Member}
 use Rattle.meaning.specs.Values.{bind}
 
 pub true-false : {b : Bool} → b ≡ true → b ≡ false → ⊥
@@ -90,3 +92,19 @@ each-map P Q f (x ∷ xs) h = (f x (h .0), each-map P Q f xs (h .1))
 pub each-both : {A : Type 0} (P Q R : A → Type 0) → ((a : A) → P a → Q a → R a) → (xs : List A) → Each P xs → Each Q xs → Each R xs
 each-both P Q R f [] h k = tt
 each-both P Q R f (x ∷ xs) h k = (f x (h .0) (k .0), each-both P Q R f xs (h .1) (k .1))
+
+pub each-member : {A : Type 0} (P : A → Type 0) (xs : List A) → Each P xs → (a : A) → Member a xs → P a
+each-member P [] h a k = absurd k
+each-member P (x ∷ xs) h a (inl q) = subst P q (h .0)
+each-member P (x ∷ xs) h a (inr k) = each-member P xs (h .1) a k
+
+-- the member at a number
+pub nth-below : {A : Type 0} (l : List A) (n : ℕ) {a : A} → nth l n ≡ some a → n < length l
+nth-below [] n {a} h = absurd (Option·none-ne-some a h)
+nth-below (x ∷ l) zero h = omega arith
+nth-below (x ∷ l) (suc n) h = let k = nth-below l n h in omega arith
+
+pub nth-past : {A : Type 0} (l : List A) (n : ℕ) → nth l n ≡ none → length l ≤ n
+nth-past [] n h = omega arith
+nth-past (x ∷ l) zero h = absurd (Option·none-ne-some x (sym h))
+nth-past (x ∷ l) (suc n) h = let k = nth-past l n h in omega arith
