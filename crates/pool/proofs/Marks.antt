@@ -13,7 +13,7 @@ use lib.Dec.{eqb, leb}
 use borrow.Author.Tests.{eqb-true, eqb-false, leb-true, leb-false}
 use Rattle.meaning.specs.Trees.{Leaf, Placed, _at_, Each, Member}
 use Rattle.pool.specs.Admission.{leadsTo}
-use Rattle.pool.specs.Cycles.{reach, mark, nearer, marked, nearest, Spreads, LeastOf}
+use Rattle.pool.specs.Cycles.{mark, nearer, marked, nearest, Spreads, LeastOf}
 
 -- ── the least ────────────────────────────────────────────────────────────────
 pub least-none : (Q : ℕ → Type 0) (b : ℕ) → ((n : ℕ) → Q n → ⊥) → LeastOf Q b b

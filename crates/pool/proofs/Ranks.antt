@@ -20,9 +20,10 @@ use Rattle.pool.specs.Admission.{leadsTo, Edge, Walk, ClosedWalk}
 use Rattle.pool.specs.Tabled.{Tables, tabled}
 use Rattle.pool.specs.Ranking.{cycleFound, countBelow, pending, zeros, Later, Leads, Sound, State, Follows, AsksVisit, AsksWalk, Ranks, Gives}
 use Rattle.pool.specs.Laws.Members.{each-member}
-use Rattle.pool.specs.Laws.Tabled.{node-count, expression-count, root-at}
+use Rattle.pool.specs.Laws.Tabled.{root-at}
 use Rattle.pool.proofs.Counts.{zeros-set, count-same, count-less}
-use Rattle.pool.proofs.Leads.{leads-map, all-there}
+use Rattle.pool.proofs.Leads.{leads-map}
+use Rattle.pool.proofs.Nodes as Nodes
 
 -- the table of ranks with one entry changed
 module _ (s : List ℕ) (e v : ℕ) (h : e < length s) where
@@ -61,11 +62,8 @@ module _ (t : Tables) (table : List ℕ) where
   pub few-ranked : {s : List ℕ} {done : ℕ} → State t table s done → done ≤ 512
   few-ranked {s} a = omega (arith, a .counted, a .fewExpressions)
 
-  pub root-there : {s : List ℕ} {done e : ℕ} → AsksVisit t table s done e → {r : ℕ} → r ≡ rootIn (t .expressions) e → r < t .nodeCount
-  root-there {e = e} a q =
-      let l = subst (λ n. e < n) (sym (expression-count t)) (a .there) in
-      let k = subst (λ n. rootOf p e < n) (node-count t) (a .state .shaped .rooted e l) in
-      rw (q, ← root-at t e (a .there)) k
+  root-there : {s : List ℕ} {done e : ℕ} → AsksVisit t table s done e → {r : ℕ} → r ≡ rootIn (t .expressions) e → r < t .nodeCount
+  root-there a q = Nodes.root-there t (a .state .shaped) (a .there) q
 
   pub follow-less : (s s′ : List ℕ) → Later s s′ → (u : ℕ) → Follows t table s u → Follows t table s′ u
   follow-less s s′ f u h g k = h g (later-followed s s′ f g k)
@@ -147,7 +145,7 @@ module _ (t : Tables) (table : List ℕ) where
       }
 
       edge : (w : Placed) → Member w (leaves (tree p (rootOf p e))) → (u : ℕ) → leadsTo table w ≡ some u → Edge p table e u
-      edge w m u q = record { source = subst (λ k. e < k) (sym (expression-count t)) (a .there); leaf = w; stands = m; leads = q }
+      edge w m u q = record { source = Nodes.source t (a .state .shaped) (a .there); leaf = w; stands = m; leads = q }
 
       follow-on : (u : ℕ) → Edge p table e u → Follows t table s1 u
       follow-on u d g k = go (eqb g e) refl
@@ -190,20 +188,17 @@ module _ (t : Tables) (table : List ℕ) where
         leaves-ranked : Leads t table (λ u. (2 ≤ getD s3 u 0) × (getD s3 u 0 < 2 + before)) (rootOf p e)
         leaves-ranked =
             let z : r ≡ rootOf p e = q ∙ sym (root-at t e (a .there)) in
-            let l = subst (λ n. e < n) (sym (expression-count t)) (a .there) in
-            let T : (u : ℕ) → Member u table → u < length (p .expressions) = λ u m. subst (λ n. u < n) (sym (expression-count t)) (a .state .tabulated u m) in
             each-both
             (λ w. (u : ℕ) → leadsTo table w ≡ some u → 2 ≤ getD s2 u 0)
-            (λ w. (u : ℕ) → leadsTo table w ≡ some u → u < length (p .expressions))
+            (λ w. (u : ℕ) → leadsTo table w ≡ some u → u < t .expressionCount)
             (λ w. (u : ℕ) → leadsTo table w ≡ some u → (2 ≤ getD s3 u 0) × (getD s3 u 0 < 2 + before))
             (λ w f g u d.
             let ranked = f u d in
-            let there = subst (λ n. u < n) (expression-count t) (g u d) in
             let same = other-than-e u ranked in
-            (omega (arith, ranked, same), omega (arith, same, k .state .sound .low u there ranked)))
+            (omega (arith, ranked, same), omega (arith, same, k .state .sound .low u (g u d) ranked)))
             (leaves (tree p (rootOf p e)))
             (subst (Leads t table (λ u. 2 ≤ getD s2 u 0)) z (k .goal))
-            (all-there p table (a .state .shaped) T (rootOf p e) (a .state .shaped .rooted e l))
+            (Nodes.leads-there t (a .state .shaped) table (a .state .tabulated) (rootOf p e) (Nodes.root-inside t (a .state .shaped) (a .there)))
 
         ranked-in : (b : ℕ) → 2 ≤ getD s3 b 0 → (b ≡ e) ⊎ ((2 ≤ getD s2 b 0) × (getD s3 b 0 ≡ getD s2 b 0))
         ranked-in b h = go (eqb b e) refl

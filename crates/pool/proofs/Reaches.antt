@@ -11,7 +11,7 @@ use native.Mathlib.Nat.{eq-or-lt-of-le}
 use lib.ListN.{length, getD, set, replicate, length-set, length-replicate}
 use lib.Dec.{eqb, ltb}
 use borrow.Author.Tests.{lt-ltb, le-ltb, eqb-true, eqb-false, eq-eqb}
-use Rattle.meaning.specs.Trees.{Placed, leaves, Member}
+use Rattle.meaning.specs.Trees.{Placed, leaves}
 use Rattle.meaning.specs.Laws.Tests.{true-false}
 use Rattle.pool.specs.Words.{rootIn}
 use Rattle.pool.specs.Pool.{Pool, rootOf}
@@ -22,10 +22,11 @@ use Rattle.pool.specs.Ranking.{countBelow, pending, Leads, Starts}
 use Rattle.pool.specs.Cycles.{marked, nearest, Spreads, reachedIn, LeastOf}
 use Rattle.pool.specs.Laws.First.{found-is, none-is}
 use Rattle.pool.specs.Laws.Members.{member-each}
-use Rattle.pool.specs.Laws.Tabled.{node-count, expression-count, root-at}
+use Rattle.pool.specs.Laws.Tabled.{expression-count, root-at}
 use Rattle.pool.specs.Laws.Cycles.{Reaches}
 use Rattle.pool.proofs.Counts.{count-less}
-use Rattle.pool.proofs.Leads.{LeadsTo, leads-map, all-there}
+use Rattle.pool.proofs.Leads.{LeadsTo, leads-map}
+use Rattle.pool.proofs.Nodes.{source, root-inside, leads-there}
 use Rattle.pool.proofs.Ranks.{at-same, at-other}
 use Rattle.pool.proofs.AllRanks.{zero-at}
 use Rattle.pool.proofs.Marks.{least-none, least-same, least-more, LedBy, nearest-is, Led, After, marked-is}
@@ -72,21 +73,12 @@ module _ (t : Tables) (table : List ℕ) where
       (λ n q. (q .0, omega (arith, q .1), q .2)) (λ n q. (e, omega arith, q)) h k
 
   module _ (a : Starts t table) where
-    source : {e : ℕ} → e < t .expressionCount → e < length (p .expressions)
-    source {e} l = subst (λ k. e < k) (sym (expression-count t)) l
-
-    -- the root of an expression is there
-    pub root-there : {e : ℕ} → e < t .expressionCount → {r : ℕ} → r ≡ rootIn (t .expressions) e → r < t .nodeCount
-    root-there {e} l q = rw (q, ← root-at t e l) (subst (λ k. rootOf p e < k) (node-count t) (a .shaped .rooted e (source l)))
-
-    leads-there : {e : ℕ} → e < t .expressionCount → LeadsTo p table (a .shaped) (λ v. v < t .expressionCount) (rootOf p e)
-    leads-there {e} l =
-        subst (λ k. LeadsTo p table (a .shaped) (λ v. v < k) (rootOf p e)) (expression-count t)
-        (all-there p table (a .shaped) (λ v h. source (a .tabulated v h)) (rootOf p e) (a .shaped .rooted e (source l)))
+    abbrev leadsIn : {e : ℕ} → e < t .expressionCount → LeadsTo p table (a .shaped) (λ v. v < t .expressionCount) (rootOf p e)
+    leadsIn {e} l = leads-there t (a .shaped) table (a .tabulated) (rootOf p e) (root-inside t (a .shaped) l)
 
     led-there : {e : ℕ} → e < t .expressionCount → {v : ℕ} → Led table (leavesAt e) v → v < t .expressionCount
     led-there {e} l {v} (w, h, q) =
-        member-each (λ w. (v : ℕ) → leadsTo table w ≡ some v → v < t .expressionCount) (leavesAt e) (leads-there l) w h v q
+        member-each (λ w. (v : ℕ) → leadsTo table w ≡ some v → v < t .expressionCount) (leavesAt e) (leadsIn l) w h v q
 
     module _ (u : ℕ) (here : u < t .expressionCount) where
       abbrev pub only : List ℕ
@@ -166,7 +158,7 @@ module _ (t : Tables) (table : List ℕ) where
 
           led-reached : (v : ℕ) → Led table (leavesAt e) v → Reaches p table u e → Reaches p table u v
           led-reached v (w, m, q) r =
-              let d : Edge p table e v = record { source = source l; leaf = w; stands = m; leads = q } in
+              let d : Edge p table e v = record { source = source t (a .shaped) l; leaf = w; stands = m; leads = q } in
               inr (⊎-elim (λ z. subst (λ j. Walk p table j v) (sym z) (Walk.one d)) (λ z. Walk.more z d) r)
 
           now-closed : (v : ℕ) → (v ≡ e) ⊎ (2 ≤ getD s v 0) → Leads t table (λ v. 1 ≤ getD s2 v 0) (rootOf p v)
@@ -206,7 +198,7 @@ module _ (t : Tables) (table : List ℕ) where
               rw (g .marks, is-root)
               (marked-is table (leavesAt e) s1
               (subst (λ n. LeadsTo p table (a .shaped) (λ v. v < n) (rootOf p e)) (sym (let z : length s1 ≡ 512 = simp length-set (h .size) in z))
-              (leads-map p table (a .shaped) (λ v. v < t .expressionCount) (λ v. v < 512) (λ v i. omega (arith, a .fewExpressions)) (rootOf p e) (leads-there l))))
+              (leads-map p table (a .shaped) (λ v. v < t .expressionCount) (λ v. v < 512) (λ v i. omega (arith, a .fewExpressions)) (rootOf p e) (leadsIn l))))
 
           pub round : Reach u b0 s2 b2
           round = next after (g .least ∙ ap (λ j. nearest table u (leaves (tree p j)) b) is-root)
@@ -236,7 +228,7 @@ module _ (t : Tables) (table : List ℕ) where
             least-same (Back u s) (LeadsBack p table u)
             (λ n q.
             let i : 1 ≤ getD s (q .0) 0 = omega (arith, q .1) in
-            record { expression = q .0; source = source (h .there (q .0) i); leaf = q .2 .0; stands = q .2 .1; leads = q .2 .2; back = h .sound (q .0) i })
+            record { expression = q .0; source = source t (a .shaped) (h .there (q .0) i); leaf = q .2 .0; stands = q .2 .1; leads = q .2 .2; back = h .sound (q .0) i })
             (λ n q. (q .expression, all-followed (q .expression) (reached (q .back)), (q .leaf, q .stands, q .leads))) (h .least)
 
     -- ── all expressions ──────────────────────────────────────────────────────

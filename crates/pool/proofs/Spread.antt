@@ -3,28 +3,27 @@
 use Prim.Native.Nat.{ℕ, _<_, _≤_, min}
 use mathlib.Core.Path.{_≡_, refl, sym, _∙_, ap, subst}
 use mathlib.Core.Bool.{Bool, true, false, cond}
-use mathlib.Core.Option.{Option, none, some}
-use mathlib.Core.List.{List, [], _∷_, _++_}
+use mathlib.Core.Option.{none, some}
+use mathlib.Core.List.{List, [], _∷_}
 use native.Mathlib.Omega.{arith}
 use lib.ListN.{length, getD, set}
 use lib.Dec.{eqb}
 use borrow.Author.Tests.{eq-eqb, ne-eqb, eqb-true, eqb-false}
-use Rattle.meaning.specs.Trees.{RowKind, Leaf, nth, Placed, _at_, leaves, Each, Member}
+use Rattle.meaning.specs.Trees.{RowKind, Leaf, nth, _at_, leaves, Each, Member}
 use Rattle.frames.specs.declared.node.Node.{Node}
 use Rattle.frames.specs.Tables.{kindIn, idIn, countIn}
 use Rattle.kinds.specs.KindBytes as kind
 use Rattle.pool.specs.Words.{c0In, c1In, c2In}
 use Rattle.pool.specs.Pool.{Pool, node, children}
-use Rattle.pool.specs.Trees.{leafOf, leafy, class, tree}
+use Rattle.pool.specs.Trees.{leafOf, tree}
 use Rattle.pool.specs.Shaped.{Shaped}
 use Rattle.pool.specs.Admission.{leadsTo}
 use Rattle.pool.specs.Tabled.{Tables, tabled}
-use Rattle.pool.specs.Ranking.{Tabling, Starts}
+use Rattle.pool.specs.Ranking.{Tabling}
 use Rattle.pool.specs.Cycles.{leadBy, leadIn, reach, mark, nearer, marked, nearest, Spreads, LeafAsked, LeafGiven, Standing}
-use Rattle.pool.specs.Laws.Tabled.{expression-count}
 use Rattle.pool.specs.Laws.Trees.{leavesOf, leaves-are, leaf-is}
 use Rattle.pool.proofs.Children.{nth-get, nth-past}
-use Rattle.pool.proofs.Leads.{LeadsTo, leads-nowhere, no-children, some-children, all-there}
+use Rattle.pool.proofs.Leads.{leads-nowhere, no-children, some-children}
 use Rattle.pool.proofs.Nodes as Nodes
 use Rattle.pool.proofs.Marks.{spreads-none, spreads-append}
 
@@ -107,12 +106,6 @@ module _ {w l e : List ℕ} {n m : ℕ} {table : List ℕ} {i : ℕ} (a : Standi
   pub room : i < 4096
   room = omega (arith, a .there, a .starts .fewNodes)
 
-  -- the leaves of an expression lead to expressions that are there
-  pub leads-below : LeadsTo p table shaped (λ v. v < m) i
-  leads-below =
-      subst (λ k. LeadsTo p table shaped (λ v. v < k) i) (expression-count t)
-      (all-there p table shaped (λ v h. subst (λ k. v < k) (sym (expression-count t)) (a .starts .tabulated v h)) i inside)
-
   module _ {c : ℕ} (ce : c ≡ countIn w i) where
     count-is : x .count ≡ c
     count-is = Nodes.count-is t shaped (a .there) ce
@@ -129,7 +122,7 @@ module _ {w l e : List ℕ} {n m : ℕ} {table : List ℕ} {i : ℕ} (a : Standi
       leaf-asks = record {
         there = room;
         leads = λ v q.
-            let h : v < m = subst (λ ws. Each (λ k. (v : ℕ) → leadsTo table k ≡ some v → v < m) ws) leaves-leaf leads-below .0 v (leads-is ∙ q) in
+            let h : v < m = subst (λ ws. Each (λ k. (v : ℕ) → leadsTo table k ≡ some v → v < m) ws) leaves-leaf (Nodes.leads-there t shaped table (a .starts .tabulated) i inside) .0 v (leads-is ∙ q) in
             omega (arith, a .starts .fewExpressions);
       }
 

@@ -1,13 +1,14 @@
-use borrow.Author.Needs.{needs}
 -- `pool::cycle::least_back` meets its contract: each need is one lemma of proofs/Reaches.antt. The measure is how many expressions are not followed.
 -- Assumes nothing.
 use Prim.Native.Nat.{ℕ}
 use mathlib.Core.List.{List}
 use mathlib.Core.Path.{sym, ap, _∙_}
 use native.Mathlib.Omega.{arith}
+use borrow.Author.Needs.{needs}
 use Rattle.pool.specs.Shapes.{foundAt}
 use Rattle.pool.specs.Ranking.{countBelow, pending, Tabling, Starts}
-use Rattle.pool.proofs.Reaches.{found-one, none-one, Reach, root-there, begin, round, round-less, finish}
+use Rattle.pool.proofs.Nodes.{root-there}
+use Rattle.pool.proofs.Reaches.{found-one, none-one, Reach, begin, round, round-less, finish}
 use Rattle.pool.proofs.cycle.least_back.Statement.{statement}
 use Rattle.pool.proofs.cycle.least_back.Tie as tie
 
@@ -42,13 +43,13 @@ root-requires : tie.Need-root-requires Inv-loop μ-loop
 root-requires c κs = omega (arith, (found-one (c .before .before .before .before .before .before .loop .marks) (c .before .before .before .before .before .before .before .before .args .m) (ap foundAt (sym (c .before .before .e .given .1)) ∙ c .before .before .before .before .first-reached .ensures)) .0, c .before .before .before .before .before .before .before .before .pre .0 .2 .fewExpressions)
 
 mark-tree-requires : tie.Need-mark-tree-requires Inv-loop μ-loop
-mark-tree-requires c κs = let P = c .before .before .before .before .before .before .before .before .before .pre in (P .0 .0, c .before .before .before .before .before .before .before .before .before .args .expressions .now, P .0 .1, c .before .before .before .before .before .before .before .before .before .args .m, (record { starts = (P .0 .2); there = root-there _ _ (P .0 .2) ((found-one (c .before .before .before .before .before .before .before .loop .marks) (c .before .before .before .before .before .before .before .before .before .args .m) (ap foundAt (sym (c .before .before .before .e .given .1)) ∙ c .before .before .before .before .before .first-reached .ensures)) .0) (c .root .ensures) }))
+mark-tree-requires c κs = let P = c .before .before .before .before .before .before .before .before .before .pre in (P .0 .0, c .before .before .before .before .before .before .before .before .before .args .expressions .now, P .0 .1, c .before .before .before .before .before .before .before .before .before .args .m, (record { starts = (P .0 .2); there = root-there _ ((P .0 .2) .shaped) ((found-one (c .before .before .before .before .before .before .before .loop .marks) (c .before .before .before .before .before .before .before .before .before .args .m) (ap foundAt (sym (c .before .before .before .e .given .1)) ∙ c .before .before .before .before .before .first-reached .ensures)) .0) (c .root .ensures) }))
 
 loop-less : tie.Need-loop-less Inv-loop μ-loop
-loop-less c = let P = c .before .before .before .before .before .before .before .before .before .before .pre in round-less _ _ (P .0 .2) (c .before .before .before .before .before .before .before .before .loop .inv (P .0 .0) (P .0 .1) (P .0 .2)) (ap foundAt (sym (c .before .before .before .before .e .given .1)) ∙ c .before .before .before .before .before .before .first-reached .ensures) (c .before .root .ensures) (c .mark-tree .ensures (P .0 .0) _ (P .0 .1) _ (record { starts = (P .0 .2); there = root-there _ _ (P .0 .2) ((found-one (c .before .before .before .before .before .before .before .before .loop .marks) (c .before .before .before .before .before .before .before .before .before .before .args .m) (ap foundAt (sym (c .before .before .before .before .e .given .1)) ∙ c .before .before .before .before .before .before .first-reached .ensures)) .0) (c .before .root .ensures) }))
+loop-less c = let P = c .before .before .before .before .before .before .before .before .before .before .pre in round-less _ _ (P .0 .2) (c .before .before .before .before .before .before .before .before .loop .inv (P .0 .0) (P .0 .1) (P .0 .2)) (ap foundAt (sym (c .before .before .before .before .e .given .1)) ∙ c .before .before .before .before .before .before .first-reached .ensures) (c .before .root .ensures) (c .mark-tree .ensures (P .0 .0) _ (P .0 .1) _ (record { starts = (P .0 .2); there = root-there _ ((P .0 .2) .shaped) ((found-one (c .before .before .before .before .before .before .before .before .loop .marks) (c .before .before .before .before .before .before .before .before .before .before .args .m) (ap foundAt (sym (c .before .before .before .before .e .given .1)) ∙ c .before .before .before .before .before .before .first-reached .ensures)) .0) (c .before .root .ensures) }))
 
 loop-again : tie.Need-loop-again Inv-loop μ-loop
-loop-again c = λ l n a. round _ _ a (c .before .before .before .before .before .before .before .before .loop .inv l n a) (ap foundAt (sym (c .before .before .before .before .e .given .1)) ∙ c .before .before .before .before .before .before .first-reached .ensures) (c .before .root .ensures) (c .mark-tree .ensures l _ n _ (record { starts = a; there = root-there _ _ a ((found-one (c .before .before .before .before .before .before .before .before .loop .marks) (c .before .before .before .before .before .before .before .before .before .before .args .m) (ap foundAt (sym (c .before .before .before .before .e .given .1)) ∙ c .before .before .before .before .before .before .first-reached .ensures)) .0) (c .before .root .ensures) }))
+loop-again c = λ l n a. round _ _ a (c .before .before .before .before .before .before .before .before .loop .inv l n a) (ap foundAt (sym (c .before .before .before .before .e .given .1)) ∙ c .before .before .before .before .before .before .first-reached .ensures) (c .before .root .ensures) (c .mark-tree .ensures l _ n _ (record { starts = a; there = root-there _ (a .shaped) ((found-one (c .before .before .before .before .before .before .before .before .loop .marks) (c .before .before .before .before .before .before .before .before .before .before .args .m) (ap foundAt (sym (c .before .before .before .before .e .given .1)) ∙ c .before .before .before .before .before .before .first-reached .ensures)) .0) (c .before .root .ensures) }))
 
 pub least-back-spec : {M : Type 1} → statement M
 least-back-spec =
