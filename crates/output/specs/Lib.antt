@@ -1,5 +1,6 @@
--- The definitions that the contracts cite, and the theorem that joins them to the steps of a list.
+-- The definitions that the contracts cite, their laws, and the theorem that joins the lines of records to those of steps.
 pub mod Output
 pub mod Runs
 pub mod Records
 pub mod Laws
+pub mod Shown

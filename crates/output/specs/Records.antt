@@ -1,16 +1,14 @@
 -- The lines as they are read off the records of a list and the tables of a pool, for every record and every table.
--- Assumes nothing.
-use Prim.Native.Nat.{ℕ, _+_, _*_, _≤_}
-use mathlib.Core.Path.{_≡_, refl, _∙_, ap}
-use mathlib.Core.Bool.{Bool, true, false, cond}
-use mathlib.Core.List.{List, [], _∷_, _++_, append-assoc}
-use native.Mathlib.Omega.{arith}
-use lib.ListN.{length, length-append}
+-- Assumes nothing: these are definitions.
+use Prim.Native.Nat.{ℕ, _+_, _*_}
+use mathlib.Core.Path.{_≡_}
+use mathlib.Core.Bool.{false, cond}
+use mathlib.Core.List.{List, [], _∷_, _++_}
+use lib.ListN.{length}
 use lib.Dec.{eqb, leb, ltb}
 use Rattle.kinds.specs.KindBytes as kind
 use Rattle.kinds.specs.Kinds.{carriesLiteral}
 use Rattle.kinds.specs.Write.{write}
-use Rattle.kinds.specs.BigEndian.{u16Bytes, u16-sized}
 use Rattle.kinds.specs.declared.reference.Reference.{Reference}
 use Rattle.kinds.specs.declared.literal.Literal.{Literal}
 use Rattle.kinds.specs.declared.step.Step.{Step}
@@ -18,9 +16,9 @@ use Rattle.meaning.specs.Trees.{Lit, lit}
 use Rattle.frames.specs.declared.node.Node.{Node}
 use Rattle.frames.specs.Order.{nodeLimit}
 use Rattle.frames.specs.Tables.{nodeIn}
-use Rattle.frames.specs.Hexed.{hexDigit, hexLine}
+use Rattle.frames.specs.Hexed.{hexLine}
 use Rattle.pool.specs.Trees.{literalOf}
-use Rattle.output.specs.Output.{u32Bytes, u64Bytes, litOut, cellOut, line}
+use Rattle.output.specs.Output.{litOut, cellOut, line}
 
 -- the longest line: a step byte, a destination, a count, and three numbers, two digits each; and the line feed
 abbrev pub lineSize : ℕ
@@ -61,6 +59,11 @@ module _ (nodes literals : List ℕ) where
   -- THE LINE OF A RECORD
   unfoldable pub recordLine : Step → List ℕ
   recordLine s = line (recordBytes s)
+
+  -- of many records
+  unfoldable pub recordLines : List Step → List ℕ
+  recordLines [] = []
+  recordLines (s ∷ ss) = recordLine s ++ recordLines ss
 
 -- ---- what the code gives
 
