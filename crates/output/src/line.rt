@@ -19,6 +19,11 @@ ghost use Rattle.output.specs.Records.{lineSize, litOf, literalIn, cellB
 // Two digits for each byte.
 const BYTE: usize = 2;
 
+// The places of a cell's parts after its kind.
+const ID: usize = BYTE;
+
+const PRIME: usize = 3 * BYTE;
+
 const CELL: usize = 4 * BYTE;
 
 const LITERAL: usize = 9 * BYTE;
@@ -77,8 +82,8 @@ fn put_cell(out: &mut [u8; LINE_SIZE], at: usize, r: Reference)
     ensures { λ _. ⌜ now (out .exit) ≡ write (now (out .entry)) at (hexLine (cellBytes r)) ⌝ }
 {
     put_byte(out, at, r.kind);
-    put_u16(out, at + BYTE, r.id);
-    put_byte(out, at + 3 * BYTE, r.prime);
+    put_u16(out, at + ID, r.id);
+    put_byte(out, at + PRIME, r.prime);
 }
 
 // 01 is minus.

@@ -18,9 +18,6 @@ add-put-u16 c = search needs
 put-u16-requires : tie.Need-put-u16-requires
 put-u16-requires c κs = search needs
 
-mul-put-byte : tie.Need-mul-put-byte
-mul-put-byte c = search needs
-
 add-put-byte : tie.Need-add-put-byte
 add-put-byte c = search needs
 
@@ -41,7 +38,6 @@ put-cell-spec =
     put-byte-requires
     add-put-u16
     put-u16-requires
-    mul-put-byte
     add-put-byte
     put-byte-requires-2
     returns)
