@@ -1,6 +1,6 @@
 -- A text fed in pieces: where reading it stands after what was fed so far.
 -- Assumes nothing: these are definitions.
-use Prim.Native.Nat.{ℕ, _+_, _*_, min}
+use Prim.Native.Nat.{ℕ, _+_, min}
 use mathlib.Core.Path.{_≡_}
 use mathlib.Core.Bool.{cond}
 use mathlib.Core.Option.{Option}
@@ -10,7 +10,6 @@ use lib.Dec.{eqb, ltb}
 use Rattle.meaning.specs.Refusals.{Refusal, refused, malformed, full}
 use Rattle.frames.specs.declared.count.Reading.{Reading}
 use Rattle.frames.specs.Order.{blameAnswer}
-use Rattle.frames.specs.Lines.{longestFrame}
 use Rattle.frames.specs.Tables.{Tables, Sized, inputIn}
 use Rattle.frames.specs.Reading.{readFrom}
 use Rattle.frames.specs.Text.{lineFeed, textFrames, readingText, FillsText}

@@ -1,18 +1,18 @@
 -- Laws of the line that has not ended, and that nothing was fed at the start.
 -- Assumes nothing.
-use Prim.Native.Nat.{ℕ, suc, _+_, _*_, _≤_, _<_, min}
+use Prim.Native.Nat.{ℕ, suc, _+_, _*_, _≤_, _<_}
 use mathlib.Core.Path.{_≡_, refl, sym, _∙_, ap}
 use mathlib.Core.Bool.{Bool, true, false, cond, not, _&&_}
-use mathlib.Core.List.{List, [], _∷_, _++_, append-assoc}
+use mathlib.Core.List.{List, [], _∷_, _++_}
 use native.Mathlib.Omega.{arith}
 use native.Mathlib.Numerals.{add-one}
 use lib.ListN.{length, take, set, length-append, length-take, length-set}
 use lib.Seq.{take-all, take-append-le, take-suc-set}
-use lib.Dec.{eqb, leb, ltb}
-use borrow.Author.Tests.{lt-ltb, le-ltb, ltb-true, ltb-false, lt-leb}
+use lib.Dec.{eqb, ltb}
+use borrow.Author.Tests.{ltb-true, ltb-false, lt-leb}
 use Rattle.meaning.specs.Trees.{Each}
 use Rattle.meaning.specs.Laws.Tests.{each-join}
-use Rattle.frames.specs.Lines.{longestFrame, allDigits, lineOk, bytesOf}
+use Rattle.frames.specs.Lines.{longestFrame, lineOk, bytesOf}
 use Rattle.frames.specs.Tables.{Tables, Sized, inputIn, first}
 use Rattle.frames.specs.Text.{lineFeed, onFirst, linesOf, lineFrame, textFrames, readingText}
 use Rattle.feed.specs.Feeding.{lineRoom, fresh, lastAfter, lastLine, Kept, Fed}

@@ -10,11 +10,9 @@ use frames::tables::NODE_WORDS;
 use frames::text::take_line;
 ghost use mathlib.Core.Path.{_≡_};
 ghost use mathlib.Core.List.{[], _∷_};
-ghost use lib.ListN.{length};
-ghost use Prim.Native.Nat.{_≤_};
 ghost use Rattle.frames.specs.Tables.{tables};
 ghost use Rattle.frames.specs.Text.{lineFeed};
-ghost use Rattle.feed.specs.Feeding.{lineRoom, fresh, Keeps, FedAsked, FedGiven, FinishGiven};
+ghost use Rattle.feed.specs.Feeding.{fresh, Keeps, FedAsked, FedGiven, FinishGiven};
 
 // One more than a line may have: a line that is kept whole in it may still be malformed, one that is not is malformed however it goes on.
 pub const LINE_ROOM: usize = 2 * LONGEST_FRAME + 1;

@@ -64,6 +64,10 @@ neg-brought x e =
 
 -- ---- what emission brings
 
+abbrev pub IsCell : Ref → Type 0
+IsCell (Ref.var c) = Unit {0}
+IsCell (Ref.number l n) = ⊥
+
 module _ (p : Pool) where
   -- node n is there, and l is the literal that it brings
   abbrev pub Says : ℕ → Lit → Type 0
@@ -84,10 +88,6 @@ module _ (p : Pool) where
   abbrev pub RefSays : Ref → Type 0
   RefSays (Ref.var c) = Unit {0}
   RefSays (Ref.number l n) = Says n l
-
-  abbrev pub IsCell : Ref → Type 0
-  IsCell (Ref.var c) = Unit {0}
-  IsCell (Ref.number l n) = ⊥
 
   pub record StepSays (s : Step) : Type 0 where
     pub into : IsCell (s .destination)
@@ -313,7 +313,7 @@ module _ (w : List ℕ) (b : Rest) (few : b .nodeCount ≤ nodeLimit) where
   source-shown (Ref.var (Cell.cell k i a)) h = rw (not-number k, append-nil (cellOut (kindNo k) i a))
   source-shown (Ref.number l n) h = rw (literal-shown n l h)
 
-  into-shown : (r : Ref) → IsCell (poolOf w b) r → cellBytes (refOf r) ≡ refOut r
+  into-shown : (r : Ref) → IsCell r → cellBytes (refOf r) ≡ refOut r
   unfolding refOut
   into-shown (Ref.var (Cell.cell k i a)) h = refl
   into-shown (Ref.number l n) h = absurd h

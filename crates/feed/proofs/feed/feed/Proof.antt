@@ -1,10 +1,8 @@
-use lib.ListN.{length}
 -- `feed::feed::feed` meets its contract. The loop's invariant: the bytes passed are fed.
 -- Assumes nothing.
 use borrow.Author.Needs.{needs}
 use Prim.Native.Nat.{_-_}
-use mathlib.Core.List.{_++_}
-use lib.ListN.{length, take}
+use lib.ListN.{length}
 use native.Mathlib.Omega.{arith}
 use Rattle.frames.specs.Tables.{tables}
 use Rattle.feed.specs.declared.feed.Feeding.the-variants as was

@@ -1,8 +1,7 @@
-use Rattle.output.proofs.Lines.{source-room, sources-none, sources-one, sources-two, sources-three}
 -- `output::line::put_sources` meets its contract: as many sources as the record counts, and at most three.
 -- Assumes nothing.
 use native.Mathlib.Omega.{arith}
-use Rattle.output.proofs.Lines.{puts-none, puts-next, source-room, sources-none, sources-one, sources-two, sources-three}
+use Rattle.output.proofs.Lines.{source-room, sources-none, sources-one, sources-two, sources-three}
 use borrow.Author.Needs.{needs}
 use Rattle.output.proofs.line.put_sources.Statement.{statement}
 use Rattle.output.proofs.line.put_sources.Tie as tie

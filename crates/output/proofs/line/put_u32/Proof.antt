@@ -2,7 +2,7 @@
 -- Assumes nothing.
 use mathlib.Core.Path.{refl}
 use Rattle.kinds.specs.BigEndian.{u16Bytes}
-use Rattle.output.specs.Output.{u32Bytes, u64Bytes}
+use Rattle.output.specs.Output.{u32Bytes}
 use Rattle.output.proofs.Lines.{put-next}
 use borrow.Author.Needs.{needs}
 use Rattle.output.proofs.line.put_u32.Statement.{statement}
