@@ -9,4 +9,10 @@ pub const NOT_THERE: u8 = 3;
 
 pub const CYCLE: u8 = 4;
 
+pub const DOUBLE_PRIME: u8 = 5;
+
+pub const NO_PRIMED_MARK: u8 = 7;
+
+pub const NO_BLOCK: u8 = 8;
+
 pub const FULL: u8 = 9;
