@@ -1,13 +1,9 @@
 -- DEMAND 3 FROM BYTES: whenever what was read is admitted, its requests are accepted and the list is built, running that list from top to bottom
 -- leaves in each requested cell its expression's value. Assumes nothing.
-use Prim.Native.Nat.{ℕ, _*_, _≤_}
-use mathlib.Core.Path.{_≡_, refl, sym, _∙_, ap, subst}
-use mathlib.Core.Bool.{Bool, true, false, _&&_, cond}
-use mathlib.Core.Option.{none}
-use mathlib.Core.List.{List, []}
-use lib.ListN.{length}
-use lib.Dec.{leb, ltb}
-use Rattle.meaning.specs.Refusals.{Refusal, Answer, done, refused, _then_}
+use Prim.Native.Nat.{ℕ, _≤_}
+use mathlib.Core.Path.{_≡_, refl, subst}
+use mathlib.Core.List.{List}
+use Rattle.meaning.specs.Refusals.{Answer, done, refused}
 use Rattle.meaning.specs.Trees.{Acyclic}
 use Rattle.meaning.specs.Values.{Algebra, Given}
 use Rattle.meaning.specs.Models.{integers, modulo}
@@ -16,18 +12,13 @@ use Rattle.meaning.specs.Building.{Segment, segment, whole}
 use Rattle.meaning.specs.Demand3.{PlainLeaf, Throughout, AllGiven, Computes}
 use Rattle.meaning.specs.Proved.{demand3}
 use Rattle.meaning.specs.Laws.Tests.{then-done, done-same, done-not-refused}
-use Rattle.kinds.specs.Steps.{stepSize}
 use Rattle.frames.specs.Order.{Input}
 use Rattle.frames.specs.Reading.{reading}
 use Rattle.frames.specs.Text.{readingText}
 use Rattle.pool.specs.Trees.{forest}
-use Rattle.pool.specs.Verdict.{Verdict}
-use Rattle.pool.specs.Exactly.{exactly-0}
 use Rattle.pool.specs.Numbered.{poolOf}
-use Rattle.requests.specs.Generating.{numberLimit}
-use Rattle.requests.specs.Whole.{fitting, served}
 use Rattle.requests.specs.Runs.{requestsOf, Runs, BytesRun, TextRun}
-use Rattle.requests.specs.Serving.{plain-requests}
+use Rattle.requests.specs.Serving.{plain-requests, accepted}
 
 -- ── the statement ────────────────────────────────────────────────────────────
 -- the first list of a segment computes what the pool and the requests that were read say
@@ -40,29 +31,15 @@ abbrev pub Demand3Read : Algebra → Answer Input → Type 0
 Demand3Read 𝓐 x = (room : ℕ) (s : Segment) → Runs x room (done s) → (i : Input) × (x ≡ done i) × ComputesInput 𝓐 i s
 
 -- ── the proof ────────────────────────────────────────────────────────────────
-fitting-same : (room : ℕ) (a s : Segment) → fitting room a ≡ done s → a ≡ s
-fitting-same room a s h = go (leb (stepSize * length (a .first)) room && ltb (a .counter) numberLimit) h
-  where
-    go : (b : Bool) → cond b (done a) (refused Refusal.full none) ≡ done s → a ≡ s
-    go true e = done-same a s e
-    go false e = absurd (done-not-refused (sym e))
-
-module _ (𝓐 : Algebra) (i : Input) (room : ℕ) (s : Segment) where
-  computes : Acyclic (forest (poolOf i)) → served (forest (poolOf i)) (requestsOf i) room ≡ done s → ComputesInput 𝓐 i s
-  computes acyclic e G plain given =
-      let x = then-done (whole 2 (forest (poolOf i)) (requestsOf i)) (fitting room) e in
-      let y = then-done (serveAll 2 (forest (poolOf i)) (requestsOf i) start) _ (x .1) in
-      let q : segment (forest (poolOf i)) (y .0) ≡ s = done-same _ _ (y .2) ∙ fitting-same room (x .0) s (x .2) in
-      subst (λ (z : Segment). Computes 𝓐 G (forest (poolOf i)) (z .first) (requestsOf i)) q
-      (demand3 𝓐 2 G (forest (poolOf i)) acyclic plain given (requestsOf i) (plain-requests (i .requests)) (y .0) (y .1))
-
-  judged-computes : (v : Answer (Unit {0})) → Verdict (poolOf i) [] v → done s ≡ (v then λ _. served (forest (poolOf i)) (requestsOf i) room) → ComputesInput 𝓐 i s
-  judged-computes (done tt) v e = computes (exactly-0 (poolOf i) (done tt) v .0 refl .1) (sym e)
-  judged-computes (refused k o) v e = absurd (done-not-refused e)
+computes : (𝓐 : Algebra) (i : Input) (s : Segment) → Acyclic (forest (poolOf i)) → whole 2 (forest (poolOf i)) (requestsOf i) ≡ done s → ComputesInput 𝓐 i s
+computes 𝓐 i s acyclic e G plain given =
+    let y = then-done (serveAll 2 (forest (poolOf i)) (requestsOf i) start) _ e in
+    subst (λ (z : Segment). Computes 𝓐 G (forest (poolOf i)) (z .first) (requestsOf i)) (done-same _ _ (y .2))
+    (demand3 𝓐 2 G (forest (poolOf i)) acyclic plain given (requestsOf i) (plain-requests (i .requests)) (y .0) (y .1))
 
 -- DEMAND 3 over every algebra, from whatever was read
 pub demand3-read : (𝓐 : Algebra) (x : Answer Input) → Demand3Read 𝓐 x
-demand3-read 𝓐 (done i) room s r = let a = r .judged i refl in (i, refl, judged-computes 𝓐 i room s (a .0) (a .1) (a .2))
+demand3-read 𝓐 (done i) room s r = let a = accepted (poolOf i) (requestsOf i) room s (r .judged i refl) in (i, refl, computes 𝓐 i s (a .acyclic) (a .run))
 demand3-read 𝓐 (refused k o) room s r = absurd (done-not-refused (r .unread k o refl))
 
 -- from a slice of frames, and from a text: over the integers, and modulo every number from 2 up

@@ -1,14 +1,14 @@
--- Laws of whole runs: as asking and then making, that room for 8,192 steps always suffices, and that only one answer fits.
+-- Laws of whole runs: as asking and then making, that room for 8,192 steps always suffices, that only one answer fits, and what is accepted.
 -- Assumes nothing.
 use Prim.Native.Nat.{ℕ, zero, suc, _+_, _*_, _<_, _≤_}
 use mathlib.Core.Path.{_≡_, refl, sym, _∙_, ap, subst}
-use mathlib.Core.Bool.{_&&_, cond}
+use mathlib.Core.Bool.{Bool, true, false, _&&_, cond}
 use mathlib.Core.Option.{none}
 use mathlib.Core.List.{List, [], _∷_, map}
 use native.Mathlib.Omega.{arith}
 use lib.ListN.{length}
 use lib.Dec.{leb, ltb}
-use borrow.Author.Tests.{lt-ltb, le-leb}
+use borrow.Author.Tests.{lt-ltb, le-leb, leb-true, ltb-true}
 use Rattle.meaning.specs.Refusals.{Refusal, Answer, done, refused, _then_}
 use Rattle.meaning.specs.Trees.{Forest, Acyclic, Each}
 use Rattle.meaning.specs.Order.{unmarked, Asked}
@@ -16,7 +16,7 @@ use Rattle.meaning.specs.Generation.{Request, start, make, adding}
 use Rattle.meaning.specs.Building.{Segment, every, segment, whole}
 use Rattle.meaning.specs.Demand3.{NoResult}
 use Rattle.meaning.specs.Asking.{askAll, serveAll-asks}
-use Rattle.meaning.specs.Laws.Tests.{each-join, each-map}
+use Rattle.meaning.specs.Laws.Tests.{each-join, then-done, done-same, done-not-refused}
 use Rattle.meaning.specs.Laws.Once.{all-found}
 use Rattle.kinds.specs.Steps.{stepSize}
 use Rattle.frames.specs.Order.{Input, nothing, nodeLimit, countsOf}
@@ -89,3 +89,29 @@ one-run x room a b h k = go x refl
     go : (z : Answer Input) → x ≡ z → a ≡ b
     go (done i) e = one-of-pool (poolOf i) (requestsOf i) room a b (h .judged i e) (k .judged i e)
     go (refused f o) e = h .unread f o e ∙ sym (k .unread f o e)
+
+-- ── what is accepted ─────────────────────────────────────────────────────────
+-- the pool has its shape and no cycle, the segment is document 01's whole run, and it fits
+pub record Accepted (p : Pool) (qs : List Request) (room : ℕ) (s : Segment) : Type 0 where
+  pub shaped : Shaped p
+  pub acyclic : Acyclic (forest p)
+  pub run : whole 2 (forest p) qs ≡ done s
+  pub list : stepSize * length (s .first) ≤ room
+  pub counter : s .counter < numberLimit
+
+pub accepted : (p : Pool) (qs : List Request) (room : ℕ) (s : Segment) → Answers p qs room (done s) → Accepted p qs room s
+accepted p qs room s a = go (a .0) (a .1) (a .2)
+  where
+    fits : Shaped p → Acyclic (forest p) → (z : Segment) → whole 2 (forest p) qs ≡ done z → (u v : Bool) → leb (stepSize * length (z .first)) room ≡ u → ltb (z .counter) numberLimit ≡ v → cond (u && v) (done z) (refused Refusal.full none) ≡ done s → Accepted p qs room s
+    fits h k z w true true x y e =
+        subst (Accepted p qs room) (done-same z s e)
+        (record { shaped = h; acyclic = k; run = w; list = leb-true (stepSize * length (z .first)) room x; counter = ltb-true (z .counter) numberLimit y })
+    fits h k z w true false x y e = absurd (done-not-refused (sym e))
+    fits h k z w false v x y e = absurd (done-not-refused (sym e))
+
+    go : (v : Answer (Unit {0})) → Verdict p [] v → done s ≡ (v then λ _. served (forest p) qs room) → Accepted p qs room s
+    go (done tt) v e =
+        let x = then-done (whole 2 (forest p) qs) (fitting room) (sym e) in
+        let k = exactly-0 p (done tt) v .0 refl in
+        fits (k .0) (k .1) (x .0) (x .1) (leb (stepSize * length (x .0 .first)) room) (ltb (x .0 .counter) numberLimit) refl refl (x .2)
+    go (refused k o) v e = absurd (done-not-refused e)
