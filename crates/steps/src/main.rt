@@ -17,7 +17,7 @@ use output::line::refusal_line;
 use transcript::conclude::conclude;
 use transcript::lines::Shown;
 use transcript::lines::output_line;
-use transcript::lines::shown;
+use transcript::lines::shown_outcome;
 ghost use lib.ListN.{length};
 ghost use Rattle.transcript.specs.Lines.{LineAsked};
 
@@ -72,7 +72,7 @@ fn main() {
                 &mut requests,
                 &mut list,
             );
-            print_lines(&nodes, &literals, &list, shown(r));
+            print_lines(&nodes, &literals, &list, shown_outcome(r));
         }
     }
 }

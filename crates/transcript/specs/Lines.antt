@@ -11,10 +11,13 @@ use Rattle.output.specs.Output.{counterLine, refusalLine}
 use Rattle.output.specs.Records.{recordLine}
 use Rattle.transcript.specs.declared.lines.Shown.{Shown}
 
+abbrev pub refusedWith : ℕ → Shown
+refusedWith n = record { refusal = n; steps = 0; counter = 0 }
+
 -- what is shown of an answer: 0 where it is done, else the refusal's number
 abbrev pub shownOf : Answer Totals → Shown
 shownOf (done t) = record { refusal = 0; steps = t .steps; counter = t .counter }
-shownOf (refused k o) = record { refusal = number k; steps = 0; counter = 0 }
+shownOf (refused k o) = refusedWith (number k)
 
 -- a refusal has no steps, and one line
 abbrev pub lineCount : Shown → ℕ

@@ -20,7 +20,7 @@ ghost use lib.ListN.{length};
 ghost use Rattle.requests.specs.Whole.{wholeSays};
 ghost use Rattle.requests.specs.Runs.{outcomeSays};
 ghost use Rattle.output.specs.Records.{PutsLine};
-ghost use Rattle.transcript.specs.Lines.{shownOf, lineNo, LineAsked};
+ghost use Rattle.transcript.specs.Lines.{refusedWith, shownOf, lineNo, LineAsked};
 
 // A refusal's number, or none, and then how many steps and temporaries there are.
 pub struct Shown {
@@ -30,7 +30,7 @@ pub struct Shown {
 }
 
 fn refused(number: u8) -> Shown
-    ensures { λ r. ⌜ (r .refusal ≡ number) × (r .steps ≡ 0) × (r .counter ≡ 0) ⌝ }
+    ensures { λ r. ⌜ r ≡ refusedWith number ⌝ }
 {
     Shown {
         refusal: number,
@@ -57,7 +57,7 @@ fn shown_whole(w: Whole) -> Shown
     }
 }
 
-pub fn shown(r: Outcome) -> Shown
+pub fn shown_outcome(r: Outcome) -> Shown
     ensures { λ s. ⌜ s ≡ shownOf (outcomeSays r) ⌝ }
 {
     match r {
