@@ -9,8 +9,8 @@ pub const PAGE_SIZE: usize = 65536;
 
 // Puts the first n bytes of a text after the first `used` of a page, and answers how many are used then. A page without room for them is written
 // first; what fits no page is left out.
-pub fn put(page: &mut [u8; PAGE_SIZE], used: usize, text: &[u8], n: usize) -> usize
-    requires { ⌜ (n ≤ length (now text)) × (used ≤ 65536) ⌝ }
+pub fn put(page: &mut [u8], used: usize, text: &[u8], n: usize) -> usize
+    requires { ⌜ (65536 ≡ length (now page)) × (n ≤ length (now text)) × (used ≤ 65536) ⌝ }
     ensures { λ r. ⌜ r ≤ 65536 ⌝ }
 {
     if PAGE_SIZE < n {
@@ -26,8 +26,8 @@ pub fn put(page: &mut [u8; PAGE_SIZE], used: usize, text: &[u8], n: usize) -> us
 }
 
 // Writes the page where n more bytes do not fit.
-fn make_room(page: &[u8; PAGE_SIZE], used: usize, n: usize) -> usize
-    requires { ⌜ (n ≤ 65536) × (used ≤ 65536) ⌝ }
+fn make_room(page: &[u8], used: usize, n: usize) -> usize
+    requires { ⌜ (65536 ≡ length (now page)) × (n ≤ 65536) × (used ≤ 65536) ⌝ }
     ensures { λ r. ⌜ r + n ≤ 65536 ⌝ }
 {
     if PAGE_SIZE - n < used {

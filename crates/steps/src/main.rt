@@ -5,6 +5,7 @@ use console::page::put;
 use console::read::read_all;
 use feed::feed::Feeding;
 use feed::feed::LINE_ROOM;
+use feed::feed::Place;
 use frames::count::EXPRESSION_LIMIT;
 use frames::count::NODE_LIMIT;
 use frames::count::REQUEST_LIMIT;
@@ -19,6 +20,8 @@ use transcript::lines::Shown;
 use transcript::lines::output_line;
 use transcript::lines::shown_outcome;
 ghost use lib.ListN.{length};
+ghost use Rattle.frames.specs.Tables.{tables};
+ghost use Rattle.feed.specs.Feeding.{FedAsked};
 ghost use Rattle.transcript.specs.Lines.{LineAsked};
 
 // Document 01's room, which always suffices.
@@ -46,6 +49,22 @@ fn print_refusal(number: u8) {
     flush(&line, n);
 }
 
+// The answer to a text that was fed to its end.
+fn answer(
+    p: Place,
+    line: &[u8],
+    nodes: &mut [u64; NODE_WORDS],
+    literals: &mut [u64; NODE_LIMIT],
+    expressions: &mut [u64; EXPRESSION_LIMIT],
+    requests: &mut [u64; REQUEST_LIMIT],
+)
+    requires { ⌜ FedAsked (now line) p (tables (now nodes) (now literals) (now expressions) (now requests)) ⌝ }
+{
+    let mut list = [0u8; LIST_SIZE];
+    let r = conclude(p, line, nodes, literals, expressions, requests, &mut list);
+    print_lines(nodes, literals, &list, shown_outcome(r));
+}
+
 fn main() {
     let mut nodes = [0u64; NODE_WORDS];
     let mut literals = [0u64; NODE_LIMIT];
@@ -61,18 +80,13 @@ fn main() {
     ) {
         Feeding::Malformed(_) => print_refusal(MALFORMED),
         Feeding::Full(_) => print_refusal(FULL),
-        Feeding::Fed(p) => {
-            let mut list = [0u8; LIST_SIZE];
-            let r = conclude(
-                p,
-                &line,
-                &mut nodes,
-                &mut literals,
-                &mut expressions,
-                &mut requests,
-                &mut list,
-            );
-            print_lines(&nodes, &literals, &list, shown_outcome(r));
-        }
+        Feeding::Fed(p) => answer(
+            p,
+            &line,
+            &mut nodes,
+            &mut literals,
+            &mut expressions,
+            &mut requests,
+        ),
     }
 }

@@ -1,7 +1,7 @@
-use native.Mathlib.Omega.{arith}
-use lib.ListN.{length-take}
 -- `console::page::flush` is safe.
 -- Assumes nothing.
+use native.Mathlib.Omega.{arith}
+use lib.ListN.{length-take}
 use borrow.Author.Needs.{needs}
 use Rattle.console.proofs.page.flush.Statement.{statement}
 use Rattle.console.proofs.page.flush.Tie as tie
