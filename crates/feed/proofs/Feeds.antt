@@ -19,10 +19,11 @@ use Rattle.frames.specs.Order.{Input, countsAnswer}
 use Rattle.frames.specs.Tables.{Tables, Sized, Takes, inputIn}
 use Rattle.frames.specs.Reading.{readFrom, held}
 use Rattle.frames.specs.Text.{lineFeed, linesOf, lineFrame, textFrames, readingText, FillsText}
+use Rattle.frames.specs.TextLaws.{frames-closed, frames-open}
 use Rattle.frames.proofs.Loops.{turn, turn-sized}
 use Rattle.frames.proofs.Texts.{bytes-line}
 use Rattle.feed.specs.Feeding.{lineRoom, lastLine, Kept, Fed, Lost, Stands, FedGiven, Keeps}
-use Rattle.feed.specs.Laws.{last-fed, last-more, last-plain, frames-closed, frames-open, frame-kept, kept-more, kept-full, kept-none}
+use Rattle.feed.specs.Laws.{last-fed, last-more, last-plain, frame-kept, kept-more, kept-full, kept-none}
 use Rattle.feed.specs.declared.feed.Place.{Place}
 use Rattle.feed.specs.declared.feed.Feeding.{Feeding}
 use Rattle.feed.specs.declared.feed.Feeding.the-variants as was

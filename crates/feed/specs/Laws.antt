@@ -10,18 +10,14 @@ use lib.ListN.{length, take, set, length-append, length-take, length-set}
 use lib.Seq.{take-all, take-append-le, take-suc-set}
 use lib.Dec.{eqb, ltb}
 use borrow.Author.Tests.{ltb-true, ltb-false, lt-leb}
-use Rattle.meaning.specs.Trees.{Each}
 use Rattle.meaning.specs.Laws.Tests.{each-join}
 use Rattle.frames.specs.Lines.{longestFrame, lineOk, bytesOf}
 use Rattle.frames.specs.Tables.{Tables, Sized, inputIn, first}
-use Rattle.frames.specs.Text.{lineFeed, onFirst, linesOf, lineFrame, textFrames, readingText}
+use Rattle.frames.specs.Text.{lineFeed, lineFrame, readingText}
+use Rattle.frames.specs.TextLaws.{Plain}
 use Rattle.feed.specs.Feeding.{lineRoom, fresh, lastAfter, lastLine, Kept, Fed}
 
 -- ---- the last line
-
--- no byte of it is a line feed
-abbrev pub Plain : List ℕ → Type 0
-Plain q = Each (λ b. eqb b lineFeed ≡ false) q
 
 -- none, all, those after the last line feed, none after it
 pub last-examples :
@@ -74,27 +70,6 @@ last-more t b h = after-byte b h [] t
 pub last-plain : (t : List ℕ) → Plain (lastLine t)
 unfolding lastLine
 last-plain t = after-plain [] t tt
-
--- ---- lines
-
-pub lines-closed : (q s : List ℕ) → Plain q → linesOf (q ++ (lineFeed ∷ s)) ≡ q ∷ linesOf s
-unfolding linesOf onFirst
-lines-closed [] s h = refl
-lines-closed (b ∷ q) s h = rw (h .0, lines-closed q s (h .1))
-
-lines-open : (b : ℕ) (q : List ℕ) → Plain (b ∷ q) → linesOf (b ∷ q) ≡ (b ∷ q) ∷ []
-unfolding linesOf onFirst
-lines-open b [] h = rw (h .0)
-lines-open b (d ∷ q) h = rw (h .0) (ap (onFirst b) (lines-open d q (h .1)))
-
-pub frames-closed : (q s : List ℕ) → Plain q → textFrames (q ++ (lineFeed ∷ s)) ≡ lineFrame q ∷ textFrames s
-unfolding textFrames
-frames-closed q s h = rw (lines-closed q s h)
-
-pub frames-open : (q : List ℕ) → Plain q → 0 < length q → textFrames q ≡ lineFrame q ∷ []
-unfolding textFrames
-frames-open [] h g = absurd (omega arith)
-frames-open (b ∷ q) h g = rw (lines-open b q h)
 
 -- ---- what is kept of a line
 

@@ -20,7 +20,8 @@ use Rattle.frames.specs.Order.{nothing}
 use Rattle.frames.specs.Lines.{longestFrame, isDigit, digitOf, allDigits, lineOk, bytesOf}
 use Rattle.frames.specs.Taking.{Bytes}
 use Rattle.frames.specs.Reading.{framesIn, readFrom, reading}
-use Rattle.frames.specs.Text.{lineFeed, onFirst, linesOf, lineFrame, textFrames, readingText}
+use Rattle.frames.specs.Text.{lineFeed, linesOf, lineFrame, textFrames, readingText}
+use Rattle.frames.specs.TextLaws.{Plain, frames-closed, frames-open}
 
 -- ---- what is written
 
@@ -70,7 +71,7 @@ unfolding allDigits hexLine Bytes
 line-digits [] h = refl
 line-digits (b ∷ f) h = simp (digit-is (b / 16) (high b (h 0)), digit-is (b % 16) (low b (h 0)), line-digits f (λ i. h (suc i)))
 
-line-length : (f : List ℕ) → length (hexLine f) ≡ 2 * length f
+pub line-length : (f : List ℕ) → length (hexLine f) ≡ 2 * length f
 unfolding hexLine
 line-length [] = refl
 line-length (b ∷ f) = rw (line-length f) (omega arith)
@@ -105,33 +106,26 @@ no-feed : (b : ℕ) → isDigit b ≡ true → eqb b lineFeed ≡ false
 unfolding isDigit within
 no-feed b e = ne-eqb b lineFeed (λ q. true≢false (sym e ∙ ap isDigit q))
 
-lines-step : (l t : List ℕ) → allDigits l ≡ true → linesOf (l ++ (lineFeed ∷ t)) ≡ l ∷ linesOf t
-unfolding linesOf onFirst allDigits
-lines-step [] t e = refl
-lines-step (b ∷ l) t e =
+digits-plain : (l : List ℕ) → allDigits l ≡ true → Plain l
+unfolding allDigits
+digits-plain [] e = tt
+digits-plain (b ∷ l) e =
     let g = and-both (isDigit b) (allDigits l) e in
-    rw (no-feed b (g .0), lines-step l t (g .1))
-
-lines-last : (b : ℕ) (l : List ℕ) → allDigits (b ∷ l) ≡ true → linesOf (b ∷ l) ≡ (b ∷ l) ∷ []
-unfolding linesOf onFirst allDigits
-lines-last b [] e = rw (no-feed b (and-both (isDigit b) true e .0))
-lines-last b (d ∷ l) e =
-    let g = and-both (isDigit b) (allDigits (d ∷ l)) e in
-    rw (no-feed b (g .0)) (ap (onFirst b) (lines-last d l (g .1)))
+    (no-feed b (g .0), digits-plain l (g .1))
 
 -- ---- a text
 
 text-then : (fs : List (List ℕ)) (t : List ℕ) → AllWritable fs → textFrames (textOf fs ++ t) ≡ fs ++ textFrames t
-unfolding textFrames textOf AllWritable
+unfolding textOf AllWritable
 text-then [] t w = refl
 text-then (f ∷ fs) t w =
-    rw (append-assoc (hexLine f) (lineFeed ∷ textOf fs) t, lines-step (hexLine f) (textOf fs ++ t) (line-digits f (w .0 .bytes)), frame-back f (w .0))
+    rw (append-assoc (hexLine f) (lineFeed ∷ textOf fs) t, frames-closed (hexLine f) (textOf fs ++ t) (digits-plain (hexLine f) (line-digits f (w .0 .bytes))), frame-back f (w .0))
     (ap (λ (l : List (List ℕ)). f ∷ l) (text-then fs t (w .1)))
 
 text-last : (f : List ℕ) → Writable f → textFrames (hexLine f) ≡ f ∷ []
-unfolding textFrames hexLine
-text-last [] v = absurd (omega (arith, v .some))
-text-last (b ∷ f) v = rw (lines-last (hexDigit (b / 16)) (hexDigit (b % 16) ∷ hexLine f) (line-digits (b ∷ f) (v .bytes))) (ap (λ (g : List ℕ). g ∷ []) (frame-back (b ∷ f) v))
+text-last f v =
+    let n : 0 < length (hexLine f) = omega (arith, line-length f, v .some) in
+    frames-open (hexLine f) (digits-plain (hexLine f) (line-digits f (v .bytes))) n ∙ rw (frame-back f v)
 
 -- THE FRAMES COME BACK, with a line feed at the end
 pub text-back : (fs : List (List ℕ)) → AllWritable fs → textFrames (textOf fs) ≡ fs

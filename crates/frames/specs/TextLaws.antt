@@ -2,7 +2,7 @@
 -- Assumes nothing.
 use mathlib.Core.Path.{_≡_, refl, ap, _∙_}
 use mathlib.Core.Bool.{Bool, true, false, cond}
-use mathlib.Core.List.{List, [], _∷_}
+use mathlib.Core.List.{List, [], _∷_, _++_}
 use mathlib.Core.Logic.{_⊎_}
 use Prim.Native.Nat.{ℕ, suc, _+_, _-_, _≤_, _<_}
 use native.Mathlib.Omega.{arith}
@@ -10,6 +10,7 @@ use lib.ListN.{length, getD, take, drop, length-drop, drop-of-length-le}
 use lib.Seq.{drop-cons, drop-drop}
 use lib.Dec.{eqb}
 use Rattle.meaning.specs.Refusals.{done, refused, malformed, full, answerNo}
+use Rattle.meaning.specs.Trees.{Each}
 use Rattle.frames.specs.Order.{nothing}
 use Rattle.frames.specs.Reading.{readFrom}
 use Rattle.frames.specs.Faults.{Wrong, Past, AllFine, First, inputFrom}
@@ -82,6 +83,31 @@ module _ (t : List ℕ) (at : ℕ) (h : at < length t) where
 pub text-end : (t : List ℕ) (at : ℕ) → length t ≤ at → textFrames (drop at t) ≡ []
 unfolding textFrames linesOf
 text-end t at h = rw (drop-of-length-le t h)
+
+-- ---- a line, with its line feed after it and without
+
+-- no byte of it is a line feed
+abbrev pub Plain : List ℕ → Type 0
+Plain q = Each (λ b. eqb b lineFeed ≡ false) q
+
+lines-closed : (q s : List ℕ) → Plain q → linesOf (q ++ (lineFeed ∷ s)) ≡ q ∷ linesOf s
+unfolding linesOf onFirst
+lines-closed [] s h = refl
+lines-closed (b ∷ q) s h = rw (h .0, lines-closed q s (h .1))
+
+lines-open : (b : ℕ) (q : List ℕ) → Plain (b ∷ q) → linesOf (b ∷ q) ≡ (b ∷ q) ∷ []
+unfolding linesOf onFirst
+lines-open b [] h = rw (h .0)
+lines-open b (d ∷ q) h = rw (h .0) (ap (onFirst b) (lines-open d q (h .1)))
+
+pub frames-closed : (q s : List ℕ) → Plain q → textFrames (q ++ (lineFeed ∷ s)) ≡ lineFrame q ∷ textFrames s
+unfolding textFrames
+frames-closed q s h = rw (lines-closed q s h)
+
+pub frames-open : (q : List ℕ) → Plain q → 0 < length q → textFrames q ≡ lineFrame q ∷ []
+unfolding textFrames
+frames-open [] h g = absurd (omega arith)
+frames-open (b ∷ q) h g = rw (lines-open b q h)
 
 -- ---- exactly when
 

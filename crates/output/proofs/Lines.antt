@@ -16,11 +16,11 @@ use Rattle.kinds.specs.declared.step.Step.{Step}
 use Rattle.meaning.specs.Trees.{Lit, lit}
 use Rattle.frames.specs.Order.{nodeLimit}
 use Rattle.frames.specs.Tables.{kindIn, signIn}
-use Rattle.frames.specs.Hexed.{hexDigit, hexLine}
+use Rattle.frames.specs.Hexed.{hexDigit, hexLine, line-length}
 use Rattle.frames.specs.Text.{lineFeed}
 use Rattle.output.specs.Output.{litOut, line}
 use Rattle.output.specs.Records.{broughtBy, literalIn, cellBytes, sourceBytes, sourcesBytes, recordBytes, recordLine, Puts, PutsLine}
-use Rattle.output.specs.Laws.{hex-append, hex-length, line-size, cell-size, literal-size, source-size, sources-size}
+use Rattle.output.specs.Laws.{hex-append, line-size, cell-size, literal-size, source-size, sources-size}
 
 pub put-two : (l : List ℕ) (at b v w : ℕ) → v ≡ hexDigit (b / 16) → w ≡ hexDigit (b % 16) → set (set l at v) (at + 1) w ≡ write l at (hexLine (b ∷ []))
 unfolding hexLine
@@ -30,7 +30,7 @@ pub put-next :
     {l₁ l₂ : List ℕ} (l : List ℕ) (at : ℕ) (xs ys : List ℕ) (j : ℕ) → l₁ ≡ write l at (hexLine xs) → l₂ ≡ write l₁ j (hexLine ys)
     → at + 2 * length xs ≡ j → l₂ ≡ write l at (hexLine (xs ++ ys))
 put-next l at xs ys j e f g =
-    let k : at + length (hexLine xs) ≡ j = omega (arith, hex-length xs) in
+    let k : at + length (hexLine xs) ≡ j = omega (arith, line-length xs) in
     rw (hex-append xs ys) (write-next l at (hexLine xs) (hexLine ys) j e f k)
 
 -- a line feed after them
@@ -39,7 +39,7 @@ pub put-feed :
 unfolding line write
 put-feed {l₁} l xs j e g =
     let n : length (line xs) ≡ 2 * length xs + 1 = line-size xs in
-    let k : 0 + length (hexLine xs) ≡ j = omega (arith, hex-length xs) in
+    let k : 0 + length (hexLine xs) ≡ j = omega (arith, line-length xs) in
     record { list = write-next l 0 (hexLine xs) (lineFeed ∷ []) j e refl k; size = omega arith }
 
 -- ---- runs of bytes that end where they say

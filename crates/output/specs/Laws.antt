@@ -15,7 +15,7 @@ use Rattle.kinds.specs.declared.reference.Reference.{Reference}
 use Rattle.kinds.specs.declared.step.Step.{Step}
 use Rattle.meaning.specs.Trees.{Lit, lit}
 use Rattle.meaning.specs.Steps as meaning
-use Rattle.frames.specs.Hexed.{hexLine}
+use Rattle.frames.specs.Hexed.{hexLine, line-length}
 use Rattle.output.specs.Output.{u32Bytes, u64Bytes, litOut, cellOut, line, stepLine, listLines, counterLine, refusalLine}
 use Rattle.output.specs.Records.{lineSize, literalIn, cellBytes, sourceBytes, sourcesBytes, recordBytes, recordLine, recordLines, PutsLine}
 
@@ -26,14 +26,9 @@ unfolding hexLine
 hex-append [] ys = refl
 hex-append (x ∷ xs) ys = rw (hex-append xs ys)
 
-pub hex-length : (xs : List ℕ) → length (hexLine xs) ≡ 2 * length xs
-unfolding hexLine
-hex-length [] = refl
-hex-length (x ∷ xs) = rw (hex-length xs) (omega arith)
-
 pub line-size : (xs : List ℕ) → length (line xs) ≡ 2 * length xs + 1
 unfolding line
-line-size xs = simp length-append (omega (arith, hex-length xs))
+line-size xs = simp length-append (omega (arith, line-length xs))
 
 -- ---- many lines
 
