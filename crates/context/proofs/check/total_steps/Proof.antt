@@ -1,0 +1,71 @@
+-- `context::check::total_steps` meets its contract: the steps of the blocks before k are added up.
+-- Assumes nothing.
+use Prim.Native.Nat.{_≤_, _-_, _*_}
+use mathlib.Core.Path.{_≡_}
+use native.Mathlib.Omega.{arith}
+use Rattle.context.specs.Context.{blocksIn, stepsBefore}
+use Rattle.context.proofs.Stores.{steps-more}
+use Rattle.context.proofs.check.total_steps.Statement.{statement}
+use Rattle.context.proofs.check.total_steps.Tie as tie
+use Rattle.context.proofs.check.total_steps.Reads as reads
+use Rattle.context.proofs.check.total_steps.Lts as lts
+use Rattle.context.proofs.layout.blocks_of.Reads as blocks-of-reads
+use Rattle.context.proofs.layout.entry_at.Reads as entry-at-reads
+
+abbrev Inv-loop : tie.InvT-loop
+Inv-loop context n steps₀ k₀ steps k = (n ≡ blocksIn context) × (k ≤ n) × (steps ≡ stepsBefore context k) × (steps ≤ 65535 * k)
+
+abbrev μ-loop : tie.MeasureT-loop
+μ-loop context n steps₀ k₀ steps k = n - k
+
+-- src/check.rt:144:9
+blocks-of-requires : tie.Need-blocks-of-requires Inv-loop μ-loop
+blocks-of-requires c κs = omega (arith, c .before .pre)
+
+-- src/check.rt:147:5
+loop-holds : tie.Need-loop-holds Inv-loop μ-loop
+loop-holds c = (c .blocks-of .ensures, omega arith, omega arith, omega arith)
+
+-- src/check.rt:148:13
+entry-at-requires : tie.Need-entry-at-requires Inv-loop μ-loop
+entry-at-requires c κs = omega (arith, c .before .before .before .before .pre)
+
+-- src/check.rt:149:18
+cast-steps : tie.Need-cast-steps Inv-loop μ-loop
+cast-steps c = omega (arith, c .before .before .before .before .before .before .pre)
+
+-- src/check.rt:149:9
+add-steps : tie.Need-add-steps Inv-loop μ-loop
+add-steps c = omega (arith, c .before .before .before .before .before .before .pre)
+
+-- src/check.rt:150:9
+add-k : tie.Need-add-k Inv-loop μ-loop
+add-k c = omega (arith, c .before .before .before .before .before .before .pre)
+
+-- src/check.rt:147:5
+loop-less : tie.Need-loop-less Inv-loop μ-loop
+loop-less c = omega (arith, c .before .before .before .before .before .before .pre)
+
+-- src/check.rt:147:5
+loop-again : tie.Need-loop-again Inv-loop μ-loop
+loop-again c = ?
+
+-- src/check.rt:140:1
+returns : tie.Need-returns Inv-loop μ-loop
+returns c = ?
+
+pub total-steps-spec : {M : Type 1} → statement M
+total-steps-spec =
+    tie.close
+    (tie.spec
+    Inv-loop
+    μ-loop
+    blocks-of-requires
+    loop-holds
+    entry-at-requires
+    cast-steps
+    add-steps
+    add-k
+    loop-less
+    loop-again
+    returns)

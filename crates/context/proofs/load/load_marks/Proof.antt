@@ -1,0 +1,66 @@
+-- `context::load::load_marks` meets its contract: the marks below `cell` are copied.
+-- Assumes nothing.
+use Prim.Native.Nat.{_≤_, _-_}
+use mathlib.Core.Path.{_≡_}
+use native.Mathlib.Omega.{arith}
+use lib.ListN.{take, drop}
+use Rattle.kinds.specs.Write.{write}
+use Rattle.context.specs.Context.{cells, marksAt}
+use Rattle.context.proofs.Copies.{copy-none, copy-more, write-over}
+use Rattle.context.proofs.load.load_marks.Statement.{statement}
+use Rattle.context.proofs.load.load_marks.Tie as tie
+use Rattle.context.proofs.load.load_marks.Reads as reads
+use Rattle.context.proofs.load.load_marks.Lts as lts
+
+abbrev Inv-loop : tie.InvT-loop
+Inv-loop context marks₀ cell₀ marks cell = (cell ≤ cells) × (marks ≡ write marks₀ 0 (take cell (drop marksAt context)))
+
+abbrev μ-loop : tie.MeasureT-loop
+μ-loop context marks₀ cell₀ marks cell = cells - cell
+
+-- src/load.rt:18:5
+loop-holds : tie.Need-loop-holds Inv-loop μ-loop
+loop-holds c = (omega arith, copy-none _ _ _)
+
+-- src/load.rt:19:31
+add-marks : tie.Need-add-marks Inv-loop μ-loop
+add-marks c = omega (arith, c .before .before .pre)
+
+-- src/load.rt:19:23
+shared-slice-read-marks : tie.Need-shared-slice-read-marks Inv-loop μ-loop
+shared-slice-read-marks c = omega (arith, c .before .before .before .pre)
+
+-- src/load.rt:19:9
+element-write-marks : tie.Need-element-write-marks Inv-loop μ-loop
+element-write-marks c = omega (arith, c .before .before .before .pre)
+
+-- src/load.rt:20:9
+add-cell : tie.Need-add-cell Inv-loop μ-loop
+add-cell c = omega (arith, c .before .before .before .pre)
+
+-- src/load.rt:18:5
+loop-less : tie.Need-loop-less Inv-loop μ-loop
+loop-less c = omega (arith, c .before .before .before .pre)
+
+-- src/load.rt:18:5
+loop-again : tie.Need-loop-again Inv-loop μ-loop
+loop-again c = ?
+
+-- src/load.rt:13:1
+returns : tie.Need-returns Inv-loop μ-loop
+returns c = ?
+
+pub load-marks-spec : {M : Type 1} → statement M
+load-marks-spec =
+    tie.close
+    (tie.spec
+    Inv-loop
+    μ-loop
+    loop-holds
+    add-marks
+    shared-slice-read-marks
+    element-write-marks
+    add-cell
+    loop-less
+    loop-again
+    returns)

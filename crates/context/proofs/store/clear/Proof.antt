@@ -1,0 +1,60 @@
+-- `context::store::clear` meets its contract: the bytes before i are 0.
+-- Assumes nothing.
+use Prim.Native.Nat.{_≤_, _-_}
+use mathlib.Core.Path.{_≡_}
+use mathlib.Core.List.{_++_}
+use native.Mathlib.Omega.{arith}
+use lib.ListN.{length, drop, replicate}
+use borrow.Author.Fill.{fill-none, fill-more}
+use Rattle.context.proofs.store.clear.Statement.{statement}
+use Rattle.context.proofs.store.clear.Tie as tie
+use Rattle.context.proofs.store.clear.Reads as reads
+use Rattle.context.proofs.store.clear.Lts as lts
+
+abbrev Inv-loop : tie.InvT-loop
+Inv-loop context₀ i₀ context i = (i ≤ length context₀) × (length context ≡ length context₀) × (context ≡ replicate i 0 ++ drop i context₀)
+
+abbrev μ-loop : tie.MeasureT-loop
+μ-loop context₀ i₀ context i = length context₀ - i
+
+-- src/store.rt:82:5
+loop-holds : tie.Need-loop-holds Inv-loop μ-loop
+loop-holds c = ?
+
+-- src/store.rt:83:9
+slice-write-context : tie.Need-slice-write-context Inv-loop μ-loop
+slice-write-context c = omega arith
+
+-- src/store.rt:84:9
+add-i : tie.Need-add-i Inv-loop μ-loop
+add-i c = omega arith
+
+-- src/store.rt:82:5
+loop-less : tie.Need-loop-less Inv-loop μ-loop
+loop-less c = omega arith
+
+-- src/store.rt:82:5
+loop-again : tie.Need-loop-again Inv-loop μ-loop
+loop-again c = ?
+
+-- src/store.rt:78:1
+same-length : tie.Need-same-length Inv-loop μ-loop
+same-length c = omega arith
+
+-- src/store.rt:78:1
+returns : tie.Need-returns Inv-loop μ-loop
+returns c = ?
+
+pub clear-spec : {M : Type 1} → statement M
+clear-spec =
+    tie.close
+    (tie.spec
+    Inv-loop
+    μ-loop
+    loop-holds
+    slice-write-context
+    add-i
+    loop-less
+    loop-again
+    same-length
+    returns)
