@@ -1,7 +1,7 @@
 -- Numbers seen one after the other are marked in a table; a number that is marked was seen before.
 -- Assumes nothing.
 use Prim.Native.Nat.{ℕ, suc, _+_, _≤_, _<_}
-use mathlib.Core.Path.{_≡_, refl, sym, _∙_, ap}
+use mathlib.Core.Path.{_≡_, refl, sym, _∙_, ap, subst}
 use mathlib.Core.List.{List}
 use mathlib.Core.Bool.{Bool, true, false}
 use mathlib.Core.Logic.{_⊎_, inl, inr, ⊎-elim}
@@ -53,8 +53,8 @@ module _ (cell : ℕ → ℕ) (size : ℕ) where
     apart = λ i k h l. absurd (omega arith);
   }
 
-  pub one-seen : (k : ℕ) (s : List ℕ) → Seen k s → cell k < size → (getD s (cell k) 0 ≡ 1 → ⊥) → Seen (k + 1) (set s (cell k) 1)
-  one-seen k s q h n = record {
+  seen-one : (k : ℕ) (s : List ℕ) → Seen k s → cell k < size → (getD s (cell k) 0 ≡ 1 → ⊥) → Seen (k + 1) (set s (cell k) 1)
+  seen-one k s q h n = record {
     full = length-set s (cell k) 1 ∙ q .full;
     held = held;
     from = from;
@@ -63,19 +63,27 @@ module _ (cell : ℕ → ℕ) (size : ℕ) where
     where
       now : getD (set s (cell k) 1) (cell k) 0 ≡ 1
       now = getD-set-same s (cell k) 1 0 (rw (q .full) h)
+
       other : (i : ℕ) → i < k → cell i ≡ cell k → ⊥
       other i l e = n (ap (λ c. getD s c 0) (sym e) ∙ q .held i l)
+
       held : (i : ℕ) → i < k + 1 → getD (set s (cell k) 1) (cell i) 0 ≡ 1
       held i l = ⊎-elim (λ e. ap (λ j. getD (set s (cell k) 1) (cell j) 0) e ∙ now) (λ b. getD-set-other s (cell k) (cell i) 1 0 (other i b) ∙ q .held i b) (last-or k i l)
+
       before : (c : ℕ) → ((i : ℕ) × (i < k) × (cell i ≡ c)) → (i : ℕ) × (i < k + 1) × (cell i ≡ c)
       before c f = (f .0, let l : f .0 < k = f .1 in omega arith, f .2)
+
       from : (c : ℕ) → getD (set s (cell k) 1) c 0 ≡ 1 → (i : ℕ) × (i < k + 1) × (cell i ≡ c)
       from c e = ⊎-elim (λ same. (k, omega arith, sym same)) (λ ne. before c (q .from c (sym (getD-set-other s (cell k) c 1 0 ne) ∙ e))) (same-or c (cell k))
+
       apart : Apart (k + 1)
       apart i j l m e = ⊎-elim (λ z. other i (omega arith) (e ∙ ap cell z)) (λ b. q .apart i j l b e) (last-or k j m)
 
-  pub seen-twice : (n k : ℕ) (s : List ℕ) → Seen k s → k < n → getD s (cell k) 0 ≡ 1 → Exactly false (Apart n)
-  seen-twice n k s q l e = not-so (λ a. let f = q .from (cell k) e in a (f .0) k (f .1) l (f .2))
+  pub one-seen : (k : ℕ) (s : List ℕ) (c : ℕ) → Seen k s → c ≡ cell k → cell k < size → (getD s c 0 ≡ 1 → ⊥) → Seen (k + 1) (set s c 1)
+  one-seen k s c q e h = subst (λ (y : ℕ). (getD s y 0 ≡ 1 → ⊥) → Seen (k + 1) (set s y 1)) (sym e) (seen-one k s q h)
+
+  pub seen-twice : (n k : ℕ) (s : List ℕ) (c : ℕ) → Seen k s → k < n → c ≡ cell k → getD s c 0 ≡ 1 → Exactly false (Apart n)
+  seen-twice n k s c q l p e = not-so (λ a. let f = q .from c e in a (f .0) k (f .1) l (f .2 ∙ p))
 
   pub all-seen : (n k : ℕ) (s : List ℕ) → Seen k s → n ≤ k → Exactly true (Apart n)
   all-seen n k s q l = is-so (λ i j a b. q .apart i j a (omega arith))

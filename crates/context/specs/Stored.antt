@@ -52,6 +52,7 @@ module _ (x : List ℕ) (i : ℕ) (ws : List ℕ) where
       within : (k : ℕ) → k < n → Apart i (length ws) j n → Apart i (length ws) (j + k) 1
       within k l (inl a) = inl (omega arith)
       within k l (inr a) = inr (omega arith)
+
       at : (k : ℕ) → k < n → getD (take n (drop j (write x i ws))) k 0 ≡ getD (take n (drop j x)) k 0
       at k l =
           getD-take n (drop j (write x i ws)) k 0 l ∙ getD-drop j (write x i ws) k 0

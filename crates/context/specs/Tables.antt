@@ -41,6 +41,11 @@ unfoldable pub tableBytes : List ℕ → List ℕ
 tableBytes [] = []
 tableBytes (w ∷ ws) = entryBytes (entryOf w) ++ tableBytes ws
 
+-- r is a number of two bytes that is read
+pub record Read16 (v r : ℕ) : Type 0 where
+  pub is : r ≡ v
+  pub small : r < 65536
+
 -- ── what is asked ────────────────────────────────────────────────────────────
 pub record EntryAsks (x : List ℕ) (k : ℕ) : Type 0 where
   pub size : length x ≡ contextSize

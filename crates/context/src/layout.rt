@@ -4,7 +4,7 @@ use starkinfo_codegen::order::JOB_LIMIT;
 ghost use mathlib.Core.Path.{_≡_};
 ghost use lib.ListN.{length};
 ghost use Rattle.context.specs.Context.{contextSize, blocksIn, stepsIn, temporariesIn, entryIn, entryCell};
-ghost use Rattle.context.specs.Tables.{EntryAsks};
+ghost use Rattle.context.specs.Tables.{Read16, EntryAsks};
 
 pub const VERSION_AT: usize = 0;
 
@@ -37,21 +37,21 @@ pub struct Entry {
 
 pub fn blocks_of(context: &[u8]) -> usize
     requires { ⌜ length (now context) ≡ contextSize ⌝ }
-    ensures { λ r. ⌜ r ≡ blocksIn (now (context .entry)) ⌝ }
+    ensures { λ r. ⌜ Read16 (blocksIn (now (context .entry))) r ⌝ }
 {
     u16_at(context, BLOCKS_AT) as usize
 }
 
 pub fn steps_of(context: &[u8]) -> usize
     requires { ⌜ length (now context) ≡ contextSize ⌝ }
-    ensures { λ r. ⌜ r ≡ stepsIn (now (context .entry)) ⌝ }
+    ensures { λ r. ⌜ Read16 (stepsIn (now (context .entry))) r ⌝ }
 {
     u16_at(context, STEPS_AT) as usize
 }
 
 pub fn temporaries_of(context: &[u8]) -> usize
     requires { ⌜ length (now context) ≡ contextSize ⌝ }
-    ensures { λ r. ⌜ r ≡ temporariesIn (now (context .entry)) ⌝ }
+    ensures { λ r. ⌜ Read16 (temporariesIn (now (context .entry))) r ⌝ }
 {
     u16_at(context, TEMPORARIES_AT) as usize
 }

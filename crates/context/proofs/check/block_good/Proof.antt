@@ -1,7 +1,6 @@
 -- `context::check::block_good` meets its contract: each test is one field.
 -- Assumes nothing.
-use native.Mathlib.Omega.{arith}
-use Rattle.context.proofs.Tells.{not-so, for-all, eqb-tells}
+use Rattle.context.proofs.Heads.{not-there, no-row, no-step, last-block}
 use borrow.Author.Needs.{needs}
 use Rattle.context.proofs.check.block_good.Statement.{statement}
 use Rattle.context.proofs.check.block_good.Tie as tie
@@ -20,7 +19,7 @@ cast-if1 c = search needs
 
 -- src/check.rt:95:9
 returns : tie.Need-returns
-returns c = ?
+returns c = not-there _ _ _ _ (c .before .before .entry-at .ensures) (c .if1 .taken)
 
 -- src/check.rt:97:16
 cast-if2 : tie.Need-cast-if2
@@ -28,11 +27,11 @@ cast-if2 c = search needs
 
 -- src/check.rt:98:9
 returns-2 : tie.Need-returns-2
-returns-2 c = ?
+returns-2 c = no-row _ _ _ _ (c .before .before .before .before .entry-at .ensures) (c .if2 .taken)
 
 -- src/check.rt:101:9
 returns-3 : tie.Need-returns-3
-returns-3 c = ?
+returns-3 c = no-step _ _ _ _ (c .before .before .before .before .before .before .entry-at .ensures) (c .if3 .taken)
 
 -- src/check.rt:103:9
 cell-of-requires : tie.Need-cell-of-requires
@@ -48,7 +47,7 @@ shared-slice-read-result c = search needs
 
 -- src/check.rt:89:1
 returns-4 : tie.Need-returns-4
-returns-4 c = ?
+returns-4 c = last-block _ _ _ _ (c .before .before .before .before .before .before .before .before .entry-at .ensures) _ (c .before .cell-of .ensures) (c .before .before .before .before .before .before .if1 .left) (c .before .before .before .before .if2 .left) (c .before .before .if3 .left)
 
 pub block-good-spec : {M : Type 1} → statement M
 block-good-spec =

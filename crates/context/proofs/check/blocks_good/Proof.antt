@@ -25,7 +25,7 @@ blocks-of-requires c κs = omega (arith, c .before .pre)
 
 -- src/check.rt:113:5
 loop-holds : tie.Need-loop-holds Inv-loop μ-loop
-loop-holds c = (c .blocks-of .ensures, omega arith, below-none _)
+loop-holds c = (c .blocks-of .ensures .is, omega arith, below-none _)
 
 -- src/check.rt:114:13
 block-good-requires : tie.Need-block-good-requires Inv-loop μ-loop

@@ -1,9 +1,9 @@
 -- `context::check::cells_apart` meets its contract: the cells of the blocks before k, and no others, are marked as seen.
 -- Assumes nothing.
-use Prim.Native.Nat.{_≤_, _-_}
-use mathlib.Core.Path.{_≡_}
+use Prim.Native.Nat.{_≤_, _<_, _-_}
+use mathlib.Core.Path.{_≡_, _∙_, ap}
 use native.Mathlib.Omega.{arith}
-use Rattle.context.specs.Context.{cells, blocksIn, cellIn}
+use Rattle.context.specs.Context.{cells, blocksIn, entryCell, cellIn}
 use Rattle.context.proofs.Cells.{Seen, none-seen, one-seen, seen-twice, all-seen}
 use Rattle.context.proofs.check.cells_apart.Statement.{statement}
 use Rattle.context.proofs.check.cells_apart.Tie as tie
@@ -25,7 +25,7 @@ blocks-of-requires c κs = omega (arith, c .before .pre)
 
 -- src/check.rt:129:5
 loop-holds : tie.Need-loop-holds Inv-loop μ-loop
-loop-holds c = (c .blocks-of .ensures, omega arith, none-seen (cellIn _) cells)
+loop-holds c = (c .blocks-of .ensures .is, omega arith, none-seen (cellIn _) cells)
 
 -- src/check.rt:130:28
 entry-at-requires : tie.Need-entry-at-requires Inv-loop μ-loop
@@ -37,15 +37,15 @@ cell-of-requires c κs = omega (arith, c .before .before .before .before .before
 
 -- src/check.rt:131:12
 array-read-if1 : tie.Need-array-read-if1 Inv-loop μ-loop
-array-read-if1 c = omega (arith, c .before .before .before .before .before .before .pre)
+array-read-if1 c = let e = c .cell-of .ensures ∙ ap entryCell (c .before .entry-at .ensures) in omega (arith, c .before .before .before .before .before .before .pre .cell (c .before .before .before .loop .k) (omega arith), c .before .before .before .loop .inv .2 .full)
 
 -- src/check.rt:132:13
 returns : tie.Need-returns Inv-loop μ-loop
-returns c = ?
+returns c = seen-twice _ _ _ _ _ _ (c .before .before .before .before .loop .inv .2) (omega arith) (c .before .cell-of .ensures ∙ ap entryCell (c .before .before .entry-at .ensures)) (c .if1 .taken)
 
 -- src/check.rt:134:9
 array-write-seen : tie.Need-array-write-seen Inv-loop μ-loop
-array-write-seen c = omega (arith, c .before .before .before .before .before .before .before .pre)
+array-write-seen c = let e = c .before .cell-of .ensures ∙ ap entryCell (c .before .before .entry-at .ensures) in omega (arith, c .before .before .before .before .before .before .before .pre .cell (c .before .before .before .before .loop .k) (omega arith), c .before .before .before .before .loop .inv .2 .full)
 
 -- src/check.rt:135:9
 add-k : tie.Need-add-k Inv-loop μ-loop
@@ -57,7 +57,7 @@ loop-less c = omega (arith, c .before .before .before .before .before .before .b
 
 -- src/check.rt:129:5
 loop-again : tie.Need-loop-again Inv-loop μ-loop
-loop-again c = ?
+loop-again c = (c .before .before .before .before .loop .inv .0, omega arith, one-seen _ _ _ _ _ (c .before .before .before .before .loop .inv .2) (c .before .cell-of .ensures ∙ ap entryCell (c .before .before .entry-at .ensures)) (c .before .before .before .before .before .before .before .pre .cell (c .before .before .before .before .loop .k) (omega arith)) (c .if1 .left))
 
 -- src/check.rt:122:1
 returns-2 : tie.Need-returns-2 Inv-loop μ-loop

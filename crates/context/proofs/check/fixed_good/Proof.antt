@@ -1,6 +1,7 @@
 -- `context::check::fixed_good` meets its contract: each test is one field.
 -- Assumes nothing.
-use Rattle.context.proofs.Tells.{not-so, for-all, eqb-tells}
+use Rattle.context.proofs.Tells.{not-so}
+use Rattle.context.proofs.Heads.{last-fixed}
 use borrow.Author.Needs.{needs}
 use Rattle.context.proofs.check.fixed_good.Statement.{statement}
 use Rattle.context.proofs.check.fixed_good.Tie as tie
@@ -37,7 +38,7 @@ shared-slice-read-result c = search needs
 
 -- src/check.rt:33:1
 returns-4 : tie.Need-returns-4
-returns-4 c = ?
+returns-4 c = last-fixed _ (c .before .before .before .before .before .if1 .left) (c .before .before .before .if2 .left) (c .before .if3 .left)
 
 pub fixed-good-spec : {M : Type 1} → statement M
 fixed-good-spec =

@@ -1,7 +1,8 @@
 -- `context::check::head_good` meets its contract: each test is one field.
 -- Assumes nothing.
+use Rattle.context.proofs.Tells.{not-so, refuted, shown}
+use Rattle.context.proofs.Heads.{many-blocks, last-head}
 use native.Mathlib.Omega.{arith}
-use Rattle.context.proofs.Tells.{not-so, refuted, shown, for-all, leb-tells}
 use borrow.Author.Needs.{needs}
 use Rattle.context.proofs.check.head_good.Statement.{statement}
 use Rattle.context.proofs.check.head_good.Tie as tie
@@ -29,7 +30,7 @@ blocks-of-requires c κs = search needs
 
 -- src/check.rt:59:9
 returns-3 : tie.Need-returns-3
-returns-3 c = not-so (λ h. omega (arith, h .fewBlocks))
+returns-3 c = many-blocks _ _ _ (c .before .blocks-of .ensures) (c .if3 .taken)
 
 -- src/check.rt:61:17
 steps-of-requires : tie.Need-steps-of-requires
@@ -37,11 +38,11 @@ steps-of-requires c κs = search needs
 
 -- src/check.rt:61:5
 mul-result : tie.Need-mul-result
-mul-result c = ?
+mul-result c = omega (arith, c .steps-of .ensures .small)
 
 -- src/check.rt:49:1
 returns-4 : tie.Need-returns-4
-returns-4 c = ?
+returns-4 c = last-head _ _ _ _ (c .before .before .before .before .before .if1 .left) (shown _ (c .before .before .before .before .fixed-good .ensures) (c .before .before .before .if2 .left)) (c .before .before .blocks-of .ensures) (c .before .if3 .left) (c .steps-of .ensures)
 
 pub head-good-spec : {M : Type 1} → statement M
 head-good-spec =

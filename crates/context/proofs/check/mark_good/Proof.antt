@@ -1,7 +1,6 @@
 -- `context::check::mark_good` meets its contract.
 -- Assumes nothing.
-use native.Mathlib.Omega.{arith}
-use Rattle.context.proofs.Tells.{for-all, eqb-tells, leb-tells}
+use Rattle.context.proofs.Heads.{mark-there, mark-beyond}
 use borrow.Author.Needs.{needs}
 use Rattle.context.proofs.check.mark_good.Statement.{statement}
 use Rattle.context.proofs.check.mark_good.Tie as tie
@@ -14,11 +13,11 @@ mul-if1 c = search needs
 
 -- src/check.rt:70:9
 returns : tie.Need-returns
-returns c = ?
+returns c = mark-there _ _ _ (c .if1 .taken)
 
 -- src/check.rt:65:1
 returns-2 : tie.Need-returns-2
-returns-2 c = ?
+returns-2 c = mark-beyond _ _ _ (c .if1 .left)
 
 pub mark-good-spec : {M : Type 1} → statement M
 mark-good-spec = tie.close (tie.spec mul-if1 returns returns-2)

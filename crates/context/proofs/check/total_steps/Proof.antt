@@ -4,7 +4,7 @@ use Prim.Native.Nat.{_≤_, _-_, _*_}
 use mathlib.Core.Path.{_≡_}
 use native.Mathlib.Omega.{arith}
 use Rattle.context.specs.Context.{blocksIn, stepsBefore}
-use Rattle.context.proofs.Stores.{steps-more}
+use Rattle.context.proofs.Stores.{steps-more, steps-all}
 use Rattle.context.proofs.check.total_steps.Statement.{statement}
 use Rattle.context.proofs.check.total_steps.Tie as tie
 use Rattle.context.proofs.check.total_steps.Reads as reads
@@ -24,7 +24,7 @@ blocks-of-requires c κs = omega (arith, c .before .pre)
 
 -- src/check.rt:147:5
 loop-holds : tie.Need-loop-holds Inv-loop μ-loop
-loop-holds c = (c .blocks-of .ensures, omega arith, omega arith, omega arith)
+loop-holds c = (c .blocks-of .ensures .is, omega arith, omega arith, omega arith)
 
 -- src/check.rt:148:13
 entry-at-requires : tie.Need-entry-at-requires Inv-loop μ-loop
@@ -48,11 +48,11 @@ loop-less c = omega (arith, c .before .before .before .before .before .before .p
 
 -- src/check.rt:147:5
 loop-again : tie.Need-loop-again Inv-loop μ-loop
-loop-again c = ?
+loop-again c = (c .before .before .before .loop .inv .0, omega arith, steps-more _ _ _ _ (c .before .before .before .loop .inv .2) (c .before .entry-at .ensures), omega arith)
 
 -- src/check.rt:140:1
 returns : tie.Need-returns Inv-loop μ-loop
-returns c = ?
+returns c = steps-all _ _ _ _ (c .before .loop .inv .0) (c .before .loop .inv .1) (c .loop-test .left) (c .before .loop .inv .2)
 
 pub total-steps-spec : {M : Type 1} → statement M
 total-steps-spec =

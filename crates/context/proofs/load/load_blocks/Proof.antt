@@ -1,12 +1,12 @@
 -- `context::load::load_blocks` meets its contract: the words of the blocks before k are written.
 -- Assumes nothing.
 use Prim.Native.Nat.{_≤_, _-_}
-use mathlib.Core.Path.{_≡_}
+use mathlib.Core.Path.{_≡_, _∙_, ap}
 use native.Mathlib.Omega.{arith}
 use Rattle.kinds.specs.Write.{write}
 use Rattle.context.specs.Context.{blocksIn}
-use Rattle.context.specs.Tables.{wordsIn}
-use Rattle.context.proofs.Stores.{words-none, words-more}
+use Rattle.context.specs.Tables.{wordOf, wordsIn}
+use Rattle.context.proofs.Stores.{words-none, words-more, words-all}
 use Rattle.context.proofs.load.load_blocks.Statement.{statement}
 use Rattle.context.proofs.load.load_blocks.Tie as tie
 use Rattle.context.proofs.load.load_blocks.Reads as reads
@@ -27,7 +27,7 @@ blocks-of-requires c κs = omega (arith, c .before .pre)
 
 -- src/load.rt:38:5
 loop-holds : tie.Need-loop-holds Inv-loop μ-loop
-loop-holds c = (c .blocks-of .ensures, omega arith, words-none _ _)
+loop-holds c = (c .blocks-of .ensures .is, omega arith, words-none _ _)
 
 -- src/load.rt:39:29
 entry-at-requires : tie.Need-entry-at-requires Inv-loop μ-loop
@@ -55,11 +55,11 @@ loop-less c = omega (arith, c .before .before .before .before .before .before .p
 
 -- src/load.rt:38:5
 loop-again : tie.Need-loop-again Inv-loop μ-loop
-loop-again c = ?
+loop-again c = (c .before .before .before .loop .inv .0, omega arith, words-more _ _ _ _ _ (c .before .before .before .loop .inv .2) (c .word-of .ensures ∙ ap wordOf (c .before .entry-at .ensures)))
 
 -- src/load.rt:32:1
 returns : tie.Need-returns Inv-loop μ-loop
-returns c = ?
+returns c = words-all _ _ _ _ _ (c .before .loop .inv .0) (c .before .loop .inv .1) (c .loop-test .left) (c .before .loop .inv .2)
 
 pub load-blocks-spec : {M : Type 1} → statement M
 load-blocks-spec =

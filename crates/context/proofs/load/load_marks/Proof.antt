@@ -6,7 +6,7 @@ use native.Mathlib.Omega.{arith}
 use lib.ListN.{take, drop}
 use Rattle.kinds.specs.Write.{write}
 use Rattle.context.specs.Context.{cells, marksAt}
-use Rattle.context.proofs.Copies.{copy-none, copy-more, write-over}
+use Rattle.context.proofs.Copies.{nothing-written, mark-read, marks-read}
 use Rattle.context.proofs.load.load_marks.Statement.{statement}
 use Rattle.context.proofs.load.load_marks.Tie as tie
 use Rattle.context.proofs.load.load_marks.Reads as reads
@@ -20,7 +20,7 @@ abbrev μ-loop : tie.MeasureT-loop
 
 -- src/load.rt:18:5
 loop-holds : tie.Need-loop-holds Inv-loop μ-loop
-loop-holds c = (omega arith, copy-none _ _ _)
+loop-holds c = (omega arith, nothing-written _ _)
 
 -- src/load.rt:19:31
 add-marks : tie.Need-add-marks Inv-loop μ-loop
@@ -44,11 +44,11 @@ loop-less c = omega (arith, c .before .before .before .pre)
 
 -- src/load.rt:18:5
 loop-again : tie.Need-loop-again Inv-loop μ-loop
-loop-again c = ?
+loop-again c = (omega arith, mark-read (c .before .before .before .args .context .now) _ _ _ (c .before .before .before .pre .size) (c .before .loop-test .taken) (c .before .before .loop .inv .1))
 
 -- src/load.rt:13:1
 returns : tie.Need-returns Inv-loop μ-loop
-returns c = ?
+returns c = marks-read (c .before .before .args .context .now) _ _ _ (c .before .before .pre .size) (c .before .before .pre .full) (c .before .loop .inv .0) (c .loop-test .left) (c .before .loop .inv .1)
 
 pub load-marks-spec : {M : Type 1} → statement M
 load-marks-spec =

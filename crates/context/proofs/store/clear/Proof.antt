@@ -1,11 +1,12 @@
+use mathlib.Core.Path.{_≡_, refl}
 -- `context::store::clear` meets its contract: the bytes before i are 0.
 -- Assumes nothing.
 use Prim.Native.Nat.{_≤_, _-_}
-use mathlib.Core.Path.{_≡_}
+use mathlib.Core.Path.{_≡_, refl, _∙_}
 use mathlib.Core.List.{_++_}
 use native.Mathlib.Omega.{arith}
-use lib.ListN.{length, drop, replicate}
-use borrow.Author.Fill.{fill-none, fill-more}
+use lib.ListN.{length, drop, replicate, length-set}
+use Rattle.context.proofs.Copies.{zero-more, zeros-all}
 use Rattle.context.proofs.store.clear.Statement.{statement}
 use Rattle.context.proofs.store.clear.Tie as tie
 use Rattle.context.proofs.store.clear.Reads as reads
@@ -19,7 +20,7 @@ abbrev μ-loop : tie.MeasureT-loop
 
 -- src/store.rt:82:5
 loop-holds : tie.Need-loop-holds Inv-loop μ-loop
-loop-holds c = ?
+loop-holds c = (omega arith, refl, refl)
 
 -- src/store.rt:83:9
 slice-write-context : tie.Need-slice-write-context Inv-loop μ-loop
@@ -35,7 +36,7 @@ loop-less c = omega arith
 
 -- src/store.rt:82:5
 loop-again : tie.Need-loop-again Inv-loop μ-loop
-loop-again c = ?
+loop-again c = (omega arith, simp length-set (c .before .loop .inv .1), zero-more _ _ _ (c .before .loop .inv .2) (omega arith))
 
 -- src/store.rt:78:1
 same-length : tie.Need-same-length Inv-loop μ-loop
@@ -43,7 +44,7 @@ same-length c = omega arith
 
 -- src/store.rt:78:1
 returns : tie.Need-returns Inv-loop μ-loop
-returns c = ?
+returns c = zeros-all _ _ _ (c .before .loop .inv .2) (c .before .loop .inv .0) (omega arith)
 
 pub clear-spec : {M : Type 1} → statement M
 clear-spec =

@@ -1,7 +1,11 @@
 -- `context::store::store_blocks` meets its contract: what is left, written after what stands, is the whole.
 -- Assumes nothing.
 use Prim.Native.Nat.{_-_}
+use mathlib.Core.Path.{_∙_, ap}
 use native.Mathlib.Omega.{arith}
+use Rattle.kinds.specs.Write.{write}
+use Rattle.context.specs.declared.layout.Entry.{Entry}
+use Rattle.context.specs.Entries.{entryBytes}
 use Rattle.context.proofs.Stores.{Left, all-left, less-left, none-left}
 use Rattle.context.proofs.store.store_blocks.Statement.{statement}
 use Rattle.context.proofs.store.store_blocks.Tie as tie
@@ -46,7 +50,7 @@ loop-less c = omega (arith, c .before .before .before .before .before .before .b
 
 -- src/store.rt:72:5
 loop-again : tie.Need-loop-again Inv-loop μ-loop
-loop-again c = ?
+loop-again c = less-left _ _ _ _ _ _ _ _ (omega (arith, c .before .before .before .before .before .before .before .before .before .pre .full, c .before .before .before .before .before .before .before .before .before .pre .few)) (c .before .before .before .before .before .before .before .loop .inv) (c .before .before .before .before .before .before .loop-test .taken) (c .before .before .before .entry-of .ensures) (c .before .before .put-entry .ensures)
 
 -- src/store.rt:67:1
 same-length : tie.Need-same-length Inv-loop μ-loop
