@@ -3,3 +3,4 @@ pub mod Entries
 pub mod Context
 pub mod Tables
 pub mod Stored
+pub mod Held

@@ -136,3 +136,32 @@ table-at x i (w ∷ ws) (suc k) h l =
     let z : i + 6 * suc k ≡ i + 6 + 6 * k = omega arith in
     ap (λ (y : List ℕ). entryAt y (i + 6 * suc k)) (write-append x i (entryBytes (entryOf w)) (tableBytes ws))
     ∙ rw (z, entry-sized (entryOf w)) (table-at (write x i (entryBytes (entryOf w))) (i + 6) ws k (rw write-length (omega arith)) (omega arith))
+
+module _ (x words : List ℕ) (from to : ℕ) (size : length x ≡ contextSize) (full : length words ≡ cells) (forward : from ≤ to) (few : to ≤ cells) where
+  part-sized : length (slice from to words) ≡ to - from
+  part-sized = length-slice from to words (omega arith)
+
+  bytes-sized : length (tableBytes (slice from to words)) ≡ 6 * (to - from)
+  bytes-sized = table-length (slice from to words) ∙ ap (λ (n : ℕ). 6 * n) part-sized
+
+  pub entry-stored : (k : ℕ) → from ≤ k → k < to → entryIn (withBlocks x words from to) k ≡ entryOf (getD words k 0)
+  entry-stored k a b =
+      let s = part-sized in
+      let d : from + (k - from) ≡ k = omega arith in
+      let p : placeOf k ≡ placeOf from + 6 * (k - from) = omega arith in
+      let g : getD (slice from to words) (k - from) 0 ≡ getD words k 0 = getD-drop from (take to words) (k - from) 0 ∙ ap (λ (j : ℕ). getD (take to words) j 0) d ∙ getD-take to words k 0 b in
+      ap (entryAt (withBlocks x words from to)) p
+      ∙ table-at x (placeOf from) (slice from to words) (k - from) (omega arith) (omega arith)
+      ∙ ap entryOf g
+
+  pub entry-before : (k : ℕ) → k < from → entryIn (withBlocks x words from to) k ≡ entryIn x k
+  entry-before k h = entry-left x (placeOf from) (tableBytes (slice from to words)) (placeOf k) (inl (omega arith))
+
+  pub entry-after : (k : ℕ) → to ≤ k → entryIn (withBlocks x words from to) k ≡ entryIn x k
+  entry-after k h = let s = bytes-sized in entry-left x (placeOf from) (tableBytes (slice from to words)) (placeOf k) (inr (omega arith))
+
+  pub u16-before-blocks : (j : ℕ) → j ≤ 8 → u16At (withBlocks x words from to) j ≡ u16At x j
+  u16-before-blocks j h = u16-left x (placeOf from) (tableBytes (slice from to words)) j (inl (omega arith))
+
+  pub marks-before-blocks : marksIn (withBlocks x words from to) ≡ marksIn x
+  marks-before-blocks = part-left x (placeOf from) (tableBytes (slice from to words)) marksAt cells (inl (omega arith))

@@ -15,7 +15,7 @@ use Rattle.context.proofs.layout.steps_of.Reads as steps-of-reads
 
 -- src/check.rt:160:9
 head-good-requires : tie.Need-head-good-requires
-head-good-requires c κs = ?
+head-good-requires c κs = tt
 
 -- src/check.rt:161:9
 returns : tie.Need-returns
