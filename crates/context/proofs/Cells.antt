@@ -7,19 +7,13 @@ use mathlib.Core.Bool.{Bool, true, false}
 use mathlib.Core.Logic.{_⊎_, inl, inr, ⊎-elim}
 use native.Mathlib.Omega.{arith}
 use native.Mathlib.Nat.{eq-or-lt-of-le, le-of-suc-le-suc}
-use lib.ListN.{length, getD, set, replicate, length-set, length-replicate, getD-replicate, List·getD-eq-default}
-use lib.Dec.{ltb, eqb}
-use borrow.Author.Tests.{ltb-true, ltb-false, eqb-true, eqb-false}
+use lib.ListN.{length, getD, set, replicate, length-set, length-replicate}
+use lib.Dec.{eqb}
+use borrow.Author.Tests.{eqb-true, eqb-false}
 use lib.Seq.{getD-set-same, getD-set-other}
 use Rattle.context.specs.Context.{Exactly}
+use Rattle.context.specs.Zeros.{zeros-at}
 use Rattle.context.proofs.Tells.{not-so, is-so}
-
-below-or : (a b : ℕ) → (a < b) ⊎ (b ≤ a)
-below-or a b = by (ltb a b) refl
-  where
-    by : (t : Bool) → ltb a b ≡ t → (a < b) ⊎ (b ≤ a)
-    by true e = inl (ltb-true a b e)
-    by false e = inr (ltb-false a b e)
 
 same-or : (a b : ℕ) → (a ≡ b) ⊎ (a ≡ b → ⊥)
 same-or a b = by (eqb a b) refl
@@ -42,14 +36,11 @@ module _ (cell : ℕ → ℕ) (size : ℕ) where
     pub from : (c : ℕ) → getD s c 0 ≡ 1 → (i : ℕ) × (i < k) × (cell i ≡ c)
     pub apart : Apart k
 
-  zeros-at : (c : ℕ) → getD {A = ℕ} (replicate size 0) c 0 ≡ 0
-  zeros-at c = ⊎-elim (λ h. getD-replicate size c 0 0 h) (λ h. List·getD-eq-default (replicate size 0) 0 (rw length-replicate h)) (below-or c size)
-
   pub none-seen : Seen 0 (replicate size 0)
   none-seen = record {
     full = length-replicate size 0;
     held = λ i h. absurd (omega arith);
-    from = λ c e. let z : _≡_ {A = ℕ} 0 1 = sym (zeros-at c) ∙ e in absurd (omega arith);
+    from = λ c e. let z : _≡_ {A = ℕ} 0 1 = sym (zeros-at size c) ∙ e in absurd (omega arith);
     apart = λ i k h l. absurd (omega arith);
   }
 

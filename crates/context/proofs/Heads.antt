@@ -8,6 +8,7 @@ use native.Mathlib.Omega.{arith}
 use lib.ListN.{length, getD}
 use lib.Dec.{eqb, leb}
 use Rattle.kinds.specs.Steps.{stepSize}
+use Rattle.frames.specs.Order.{expressionLimit}
 use Rattle.context.specs.declared.layout.Entry.{Entry}
 use Rattle.context.specs.Context.{spareAt, marksAt, cells, contextSize, blocksIn, stepsIn, markIn, entryIn, entryCell, cellIn, stepsBefore, Fixed, Head, Mark, Marks, Block, Blocks, CellsApart, Good, Exactly}
 use Rattle.context.specs.Tables.{Read16, CellsChecked, Tabled}
@@ -70,7 +71,7 @@ module _ (x : List ℕ) (m k : ℕ) (e : Entry) (p : e ≡ entryIn x k) where
 
 -- ── all ──────────────────────────────────────────────────────────────────────
 -- the cell of a good block is one
-pub cells-checked : (x : List ℕ) (m room : ℕ) → m ≤ 512 → Head x room → Blocks x m → CellsChecked x
+pub cells-checked : (x : List ℕ) (m room : ℕ) → m ≤ expressionLimit → Head x room → Blocks x m → CellsChecked x
 cells-checked x m room f h b = record {
   context = record { size = h .size; few = h .fewBlocks };
   cell = λ k l. let d = b k l in omega (arith, d .there, d .inRow);

@@ -2,29 +2,21 @@
 -- it; stored tables are held by what is written; and whether a context is good can be said of its tables. Assumes nothing.
 use mathlib.Core.Path.{_≡_, refl, sym, _∙_, ap, subst}
 use mathlib.Core.List.{List, [], _∷_}
-use mathlib.Core.Logic.{_⊎_, inl, inr, ⊎-elim}
-use mathlib.Core.Bool.{Bool, true, false}
+use mathlib.Core.Logic.{⊎-elim}
 use Prim.Native.Nat.{ℕ, zero, suc, _+_, _*_, _/_, _%_, _≤_, _<_}
 use native.Mathlib.Omega.{arith}
 use native.Mathlib.Decide.{le-ind}
-use lib.ListN.{length, getD, take, drop, replicate, length-take, length-drop, length-set, length-replicate, getD-replicate, List·getD-append, List·getD-eq-default}
+use lib.ListN.{length, getD, take, drop, replicate, length-take, length-drop, length-set, length-replicate, List·getD-append}
 use lib.Seq.{slice, getD-at, getD-take, getD-drop, getD-set-same, getD-set-other, ext-getD}
-use lib.Dec.{ltb}
-use borrow.Author.Tests.{ltb-true, ltb-false}
 use Rattle.kinds.specs.Steps.{stepSize}
+use Rattle.frames.specs.Order.{expressionLimit}
 use Rattle.kinds.specs.BigEndian.{u16At}
 use Rattle.kinds.specs.Write.{write, write-length, write-there}
 use Rattle.context.specs.declared.layout.Entry.{Entry}
 use Rattle.context.specs.Context.{rowsAt, marksAt, blocksAt, stepsAt, temporariesAt, cells, contextSize, placeOf, blocksIn, stepsIn, temporariesIn, markIn, entryIn, entryCell, cellIn, stepsBefore, Fixed, Mark, Block, Good}
 use Rattle.context.specs.Tables.{marksIn, wordOf, entryOf, wordsIn, words-length, counterBytes, tableBytes, withCounters, withMarks, withBlocks, freshBytes}
+use Rattle.context.specs.Zeros.{below-or, zeros-at}
 use Rattle.context.specs.Stored as stored
-
-below-or : (a b : ℕ) → (a < b) ⊎ (b ≤ a)
-below-or a b = by (ltb a b) refl
-  where
-    by : (t : Bool) → ltb a b ≡ t → (a < b) ⊎ (b ≤ a)
-    by true e = inl (ltb-true a b e)
-    by false e = inr (ltb-false a b e)
 
 -- THE CONTEXT x IS HELD: its marks, n blocks as words, and its counters
 pub record Held (x marks words : List ℕ) (n steps temporaries : ℕ) : Type 0 where
@@ -164,7 +156,7 @@ words-at x n k h =
     n h
 
 -- A GOOD CONTEXT IS HELD by the tables that it is loaded into
-pub loaded-held : (x words : List ℕ) (m room : ℕ) → m ≤ 512 → length words ≡ cells → Good x m room → Held x (marksIn x) (write words 0 (wordsIn x (blocksIn x))) (blocksIn x) (stepsIn x) (temporariesIn x)
+pub loaded-held : (x words : List ℕ) (m room : ℕ) → m ≤ expressionLimit → length words ≡ cells → Good x m room → Held x (marksIn x) (write words 0 (wordsIn x (blocksIn x))) (blocksIn x) (stepsIn x) (temporariesIn x)
 loaded-held x words m room f l g = record {
   size = g .head .size;
   fixed = g .head .fixed;
@@ -177,6 +169,7 @@ loaded-held x words m room f l g = record {
   where
     n : ℕ
     n = blocksIn x
+
     word : (k : ℕ) → k < n → getD (write words 0 (wordsIn x n)) k 0 ≡ wordOf (entryIn x k)
     word k h =
         let s : length (wordsIn x n) ≡ n = words-length x n in
@@ -184,6 +177,7 @@ loaded-held x words m room f l g = record {
         ap (λ (j : ℕ). getD (write words 0 (wordsIn x n)) j 0) (sym e)
         ∙ write-there words 0 (wordsIn x n) k (omega (arith, g .head .fewBlocks)) (omega arith)
         ∙ words-at x n k h
+
     entries : (k : ℕ) → k < n → entryIn x k ≡ entryOf (getD (write words 0 (wordsIn x n)) k 0)
     entries k h =
         let b = g .blocks k h in
@@ -216,16 +210,22 @@ stored-held x marks₀ words₀ from steps₀ temporaries₀ marks words to step
   where
     x₁ : List ℕ
     x₁ = withCounters x to steps temporaries
+
     x₂ : List ℕ
     x₂ = withMarks x₁ marks
+
     size₁ : length x₁ ≡ contextSize
     size₁ = write-length x blocksAt (counterBytes to steps temporaries) ∙ h .size
+
     size₂ : length x₂ ≡ contextSize
     size₂ = write-length x₁ marksAt marks ∙ size₁
+
     size₃ : length (withBlocks x₂ words from to) ≡ contextSize
     size₃ = write-length x₂ (placeOf from) (tableBytes (slice from to words)) ∙ size₂
+
     number : (j : ℕ) → j ≤ 8 → u16At (withBlocks x₂ words from to) j ≡ u16At x₁ j
     number j l = stored.u16-before-blocks x₂ words from to size₂ (g .wordsFull) (g .forward) (g .few) j l ∙ stored.u16-before-marks x₁ marks size₁ (g .marksFull) j l
+
     before : (k : ℕ) → k < from → entryIn (withBlocks x₂ words from to) k ≡ entryOf (getD words k 0)
     before k l =
         stored.entry-before x₂ words from to size₂ (g .wordsFull) (g .forward) (g .few) k l
@@ -235,9 +235,6 @@ stored-held x marks₀ words₀ from steps₀ temporaries₀ marks words to step
         ∙ ap entryOf (sym (g .kept k l))
 
 -- ── fresh ────────────────────────────────────────────────────────────────────
-zeros-at : (n j : ℕ) → getD {A = ℕ} (replicate n 0) j 0 ≡ 0
-zeros-at n j = ⊎-elim (λ h. getD-replicate n j 0 0 h) (λ h. List·getD-eq-default (replicate n 0) 0 (rw length-replicate h)) (below-or j n)
-
 fresh-at : (n j : ℕ) → (j ≡ rowsAt → ⊥) → getD (freshBytes n) j 0 ≡ 0
 unfolding freshBytes
 fresh-at n j h = getD-set-other (replicate n 0) rowsAt j 2 0 h ∙ zeros-at n j

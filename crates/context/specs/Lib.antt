@@ -2,5 +2,6 @@
 pub mod Entries
 pub mod Context
 pub mod Tables
+pub mod Zeros
 pub mod Stored
 pub mod Held

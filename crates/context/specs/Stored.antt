@@ -10,9 +10,10 @@ use lib.ListN.{length, getD, take, drop, length-append, length-take, length-drop
 use lib.Seq.{slice, take-at, drop-at, getD-at, getD-take, getD-drop, ext-getD, length-slice}
 use Rattle.kinds.specs.Write.{write, write-is, write-append, write-length, write-there, write-before, write-after}
 use Rattle.kinds.specs.Records.{Same, Apart, same-written, put-read, put-kept}
+use Rattle.frames.specs.Order.{expressionLimit}
 use Rattle.kinds.specs.BigEndian.{u16At, u16Bytes, u16Layout, u16-part}
 use Rattle.context.specs.declared.layout.Entry.{Entry}
-use Rattle.context.specs.Entries.{entryAt, entryBytes, entry-sized, entryLayout}
+use Rattle.context.specs.Entries.{entrySize, entryAt, entryBytes, entry-sized, entryLayout}
 use Rattle.context.specs.Context.{marksAt, cells, contextSize, placeOf, blocksIn, stepsIn, temporariesIn, markIn, entryIn, entryCell, Fixed}
 use Rattle.context.specs.Tables.{marksIn, wordOf, entryOf, wordsIn, words-length, tableBytes, counterBytes, withCounters, withMarks, withBlocks}
 
@@ -21,7 +22,7 @@ pub word-back : (w : ℕ) → wordOf (entryOf w) ≡ w
 unfolding wordOf entryOf
 word-back w = omega arith
 
-pub entry-back : (e : Entry) → e .expression < 512 → e .prime < 2 → entryOf (wordOf e) ≡ e
+pub entry-back : (e : Entry) → e .expression < expressionLimit → e .prime < 2 → entryOf (wordOf e) ≡ e
 unfolding wordOf entryOf
 entry-back e h g =
     let w = entryCell e + cells * e .steps in
@@ -39,7 +40,7 @@ module _ (x : List ℕ) (i : ℕ) (ws : List ℕ) where
   pub u16-left : (j : ℕ) → Apart i (length ws) j 2 → u16At (write x i ws) j ≡ u16At x j
   u16-left j h = put-kept u16Layout x i ws j h
 
-  pub entry-left : (j : ℕ) → Apart i (length ws) j 6 → entryAt (write x i ws) j ≡ entryAt x j
+  pub entry-left : (j : ℕ) → Apart i (length ws) j entrySize → entryAt (write x i ws) j ≡ entryAt x j
   entry-left j h = put-kept entryLayout x i ws j h
 
   -- n numbers from j on
@@ -120,12 +121,12 @@ module _ (x s : List ℕ) (size : length x ≡ contextSize) (full : length s ≡
   entry-past-marks k = entry-left x marksAt s (placeOf k) (inr (omega arith))
 
 -- ── entries ──────────────────────────────────────────────────────────────────
-pub table-length : (ws : List ℕ) → length (tableBytes ws) ≡ 6 * length ws
+pub table-length : (ws : List ℕ) → length (tableBytes ws) ≡ entrySize * length ws
 unfolding tableBytes
 table-length [] = refl
 table-length (w ∷ ws) = length-append (entryBytes (entryOf w)) (tableBytes ws) ∙ rw (entry-sized (entryOf w), table-length ws) (omega arith)
 
-pub table-at : (x : List ℕ) (i : ℕ) (ws : List ℕ) (k : ℕ) → i + 6 * length ws ≤ length x → k < length ws → entryAt (write x i (tableBytes ws)) (i + 6 * k) ≡ entryOf (getD ws k 0)
+pub table-at : (x : List ℕ) (i : ℕ) (ws : List ℕ) (k : ℕ) → i + entrySize * length ws ≤ length x → k < length ws → entryAt (write x i (tableBytes ws)) (i + entrySize * k) ≡ entryOf (getD ws k 0)
 unfolding tableBytes
 table-at x i [] k h l = absurd (omega arith)
 table-at x i (w ∷ ws) zero h l =
@@ -141,7 +142,7 @@ module _ (x words : List ℕ) (from to : ℕ) (size : length x ≡ contextSize) 
   part-sized : length (slice from to words) ≡ to - from
   part-sized = length-slice from to words (omega arith)
 
-  bytes-sized : length (tableBytes (slice from to words)) ≡ 6 * (to - from)
+  bytes-sized : length (tableBytes (slice from to words)) ≡ entrySize * (to - from)
   bytes-sized = table-length (slice from to words) ∙ ap (λ (n : ℕ). 6 * n) part-sized
 
   pub entry-stored : (k : ℕ) → from ≤ k → k < to → entryIn (withBlocks x words from to) k ≡ entryOf (getD words k 0)

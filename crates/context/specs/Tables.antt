@@ -9,6 +9,7 @@ use native.Mathlib.Omega.{arith}
 use lib.Seq.{slice}
 use lib.Dec.{eqb}
 use Rattle.kinds.specs.Write.{write}
+use Rattle.frames.specs.Order.{expressionLimit}
 use Rattle.kinds.specs.BigEndian.{u16Bytes}
 use Rattle.context.specs.Entries.{entryBytes}
 use Rattle.context.specs.Context.{rowsAt, blocksAt, marksAt, cells, contextSize, placeOf, blocksIn, entryIn, entryCell, cellIn}
@@ -58,15 +59,15 @@ pub record Tabled (x : List ℕ) : Type 0 where
 
 pub record MarksChecked (x : List ℕ) (m : ℕ) : Type 0 where
   pub size : length x ≡ contextSize
-  pub few : m ≤ 512
+  pub few : m ≤ expressionLimit
 
 pub record BlockChecked (x : List ℕ) (k m : ℕ) : Type 0 where
   pub entry : EntryAsks x k
-  pub few : m ≤ 512
+  pub few : m ≤ expressionLimit
 
 pub record BlocksChecked (x : List ℕ) (m : ℕ) : Type 0 where
   pub context : Tabled x
-  pub few : m ≤ 512
+  pub few : m ≤ expressionLimit
 
 pub record CellsChecked (x : List ℕ) : Type 0 where
   pub context : Tabled x

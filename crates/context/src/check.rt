@@ -15,6 +15,7 @@ use starkinfo_codegen::out::ROWS;
 ghost use mathlib.Core.Path.{_≡_};
 ghost use Prim.Native.Nat.{_≤_};
 ghost use lib.ListN.{length};
+ghost use Rattle.frames.specs.Order.{expressionLimit};
 ghost use Rattle.context.specs.Context.{contextSize, blocksIn, stepsBefore, Fixed, Head, Mark, Marks, Block, Blocks, CellsApart, Good, Exactly};
 ghost use Rattle.context.specs.Tables.{Tabled, MarksChecked, BlockChecked, BlocksChecked, CellsChecked};
 
@@ -22,7 +23,7 @@ pub const VERSION: u8 = 0;
 
 pub const MODE: u8 = 0;
 
-pub const ROW_COUNT: u8 = 2;
+pub const ROW_COUNT: u8 = ROWS as u8;
 
 pub const SPARE: u8 = 0;
 
@@ -63,7 +64,7 @@ fn head_good(context: &[u8], room: usize) -> bool
 
 // The mark of a cell, in a pool of m expressions.
 fn mark_good(mark: u8, cell: usize, m: usize) -> bool
-    requires { ⌜ m ≤ 512 ⌝ }
+    requires { ⌜ m ≤ expressionLimit ⌝ }
     ensures { λ r. ⌜ Exactly r (Mark mark cell m) ⌝ }
 {
     if cell < ROWS * m {
@@ -154,7 +155,7 @@ fn total_steps(context: &[u8]) -> usize
 
 // For a pool of m expressions and a list of `room` bytes. Where it is not good it is a malformed record, refusal 1.
 pub fn is_good(context: &[u8], room: usize, m: usize) -> bool
-    requires { ⌜ m ≤ 512 ⌝ }
+    requires { ⌜ m ≤ expressionLimit ⌝ }
     ensures { λ r. ⌜ Exactly r (Good (now (context .entry)) m room) ⌝ }
 {
     if !head_good(context, room) {

@@ -1,6 +1,7 @@
 // The places of a context's bytes, and the entries of its block table. Numbers are big-endian.
 use kinds::big_endian::u16_at;
 use starkinfo_codegen::order::JOB_LIMIT;
+use starkinfo_codegen::out::ROWS;
 ghost use mathlib.Core.Path.{_≡_};
 ghost use lib.ListN.{length};
 ghost use Rattle.context.specs.Context.{contextSize, blocksIn, stepsIn, temporariesIn, entryIn, entryCell};
@@ -23,6 +24,11 @@ pub const TEMPORARIES_AT: usize = 8;
 pub const MARKS_AT: usize = 10;
 
 pub const TABLE_AT: usize = MARKS_AT + JOB_LIMIT;
+
+// The places of an entry's parts.
+pub const PRIME: usize = 2;
+
+pub const STEPS: usize = 4;
 
 pub const ENTRY_SIZE: usize = 6;
 
@@ -63,13 +69,13 @@ pub fn entry_at(context: &[u8], k: usize) -> Entry
     let at = TABLE_AT + ENTRY_SIZE * k;
     Entry {
         expression: u16_at(context, at),
-        prime: u16_at(context, at + 2),
-        steps: u16_at(context, at + 4),
+        prime: u16_at(context, at + PRIME),
+        steps: u16_at(context, at + STEPS),
     }
 }
 
 pub fn cell_of(e: Entry) -> usize
     ensures { λ r. ⌜ r ≡ entryCell e ⌝ }
 {
-    2 * (e.expression as usize) + (e.prime as usize)
+    ROWS * (e.expression as usize) + (e.prime as usize)
 }

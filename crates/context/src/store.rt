@@ -5,7 +5,9 @@ use crate::layout::CONTEXT_SIZE;
 use crate::layout::ENTRY_SIZE;
 use crate::layout::Entry;
 use crate::layout::MARKS_AT;
+use crate::layout::PRIME;
 use crate::layout::ROWS_AT;
+use crate::layout::STEPS;
 use crate::layout::STEPS_AT;
 use crate::layout::TABLE_AT;
 use crate::layout::TEMPORARIES_AT;
@@ -59,8 +61,8 @@ fn put_entry(context: &mut [u8], k: usize, e: Entry)
 {
     let at = TABLE_AT + ENTRY_SIZE * k;
     put_u16(context, at, e.expression);
-    put_u16(context, at + 2, e.prime);
-    put_u16(context, at + 4, e.steps);
+    put_u16(context, at + PRIME, e.prime);
+    put_u16(context, at + STEPS, e.steps);
 }
 
 // Entries from `from` up to `to` of the block table.

@@ -8,10 +8,6 @@ use Rattle.context.specs.Context.{blocksIn, Block}
 use Rattle.context.proofs.Tells.{shown, one-fails, none-fails}
 use Rattle.context.proofs.check.blocks_good.Statement.{statement}
 use Rattle.context.proofs.check.blocks_good.Tie as tie
-use Rattle.context.proofs.check.blocks_good.Reads as reads
-use Rattle.context.proofs.check.blocks_good.Lts as lts
-use Rattle.context.proofs.check.block_good.Reads as block-good-reads
-use Rattle.context.proofs.layout.blocks_of.Reads as blocks-of-reads
 
 abbrev Inv-loop : tie.InvT-loop
 Inv-loop context m n k₀ k = (n ≡ blocksIn context) × (k ≤ n) × ((i : ℕ) → i < k → Block context m i)
@@ -19,35 +15,27 @@ Inv-loop context m n k₀ k = (n ≡ blocksIn context) × (k ≤ n) × ((i : ℕ
 abbrev μ-loop : tie.MeasureT-loop
 μ-loop context m n k₀ k = n - k
 
--- src/check.rt:111:9
 blocks-of-requires : tie.Need-blocks-of-requires Inv-loop μ-loop
 blocks-of-requires c κs = omega (arith, c .before .pre)
 
--- src/check.rt:113:5
 loop-holds : tie.Need-loop-holds Inv-loop μ-loop
 loop-holds c = (c .blocks-of .ensures .is, omega arith, below-none _)
 
--- src/check.rt:114:13
 block-good-requires : tie.Need-block-good-requires Inv-loop μ-loop
 block-good-requires c κs = omega (arith, c .before .before .before .before .pre)
 
--- src/check.rt:115:13
 returns : tie.Need-returns Inv-loop μ-loop
 returns c = one-fails _ _ _ _ (omega arith) (c .before .block-good .ensures) (c .if1 .taken)
 
--- src/check.rt:117:9
 add-k : tie.Need-add-k Inv-loop μ-loop
 add-k c = omega (arith, c .before .before .before .before .before .before .pre)
 
--- src/check.rt:113:5
 loop-less : tie.Need-loop-less Inv-loop μ-loop
 loop-less c = omega (arith, c .before .before .before .before .before .before .pre)
 
--- src/check.rt:113:5
 loop-again : tie.Need-loop-again Inv-loop μ-loop
 loop-again c = (c .before .before .before .loop .inv .0, omega arith, below-more _ _ (c .before .before .before .loop .inv .2) (shown _ (c .before .block-good .ensures) (c .if1 .left)))
 
--- src/check.rt:107:1
 returns-2 : tie.Need-returns-2 Inv-loop μ-loop
 returns-2 c = none-fails _ _ _ (omega arith) (c .before .loop .inv .2)
 

@@ -7,11 +7,6 @@ use Rattle.context.specs.Context.{cells, blocksIn, entryCell, cellIn}
 use Rattle.context.proofs.Cells.{Seen, none-seen, one-seen, seen-twice, all-seen}
 use Rattle.context.proofs.check.cells_apart.Statement.{statement}
 use Rattle.context.proofs.check.cells_apart.Tie as tie
-use Rattle.context.proofs.check.cells_apart.Reads as reads
-use Rattle.context.proofs.check.cells_apart.Lts as lts
-use Rattle.context.proofs.layout.blocks_of.Reads as blocks-of-reads
-use Rattle.context.proofs.layout.cell_of.Reads as cell-of-reads
-use Rattle.context.proofs.layout.entry_at.Reads as entry-at-reads
 
 abbrev Inv-loop : tie.InvT-loop
 Inv-loop context n seen₀ k₀ seen k = (n ≡ blocksIn context) × (k ≤ n) × Seen (cellIn context) cells k seen
@@ -19,47 +14,36 @@ Inv-loop context n seen₀ k₀ seen k = (n ≡ blocksIn context) × (k ≤ n) �
 abbrev μ-loop : tie.MeasureT-loop
 μ-loop context n seen₀ k₀ seen k = n - k
 
--- src/check.rt:126:9
 blocks-of-requires : tie.Need-blocks-of-requires Inv-loop μ-loop
 blocks-of-requires c κs = omega (arith, c .before .pre)
 
--- src/check.rt:129:5
 loop-holds : tie.Need-loop-holds Inv-loop μ-loop
 loop-holds c = (c .blocks-of .ensures .is, omega arith, none-seen (cellIn _) cells)
 
--- src/check.rt:130:28
 entry-at-requires : tie.Need-entry-at-requires Inv-loop μ-loop
 entry-at-requires c κs = omega (arith, c .before .before .before .before .pre)
 
--- src/check.rt:130:13
 cell-of-requires : tie.Need-cell-of-requires Inv-loop μ-loop
 cell-of-requires c κs = omega (arith, c .before .before .before .before .before .pre)
 
--- src/check.rt:131:12
 array-read-if1 : tie.Need-array-read-if1 Inv-loop μ-loop
 array-read-if1 c = let e = c .cell-of .ensures ∙ ap entryCell (c .before .entry-at .ensures) in omega (arith, c .before .before .before .before .before .before .pre .cell (c .before .before .before .loop .k) (omega arith), c .before .before .before .loop .inv .2 .full)
 
--- src/check.rt:132:13
 returns : tie.Need-returns Inv-loop μ-loop
 returns c = seen-twice _ _ _ _ _ _ (c .before .before .before .before .loop .inv .2) (omega arith) (c .before .cell-of .ensures ∙ ap entryCell (c .before .before .entry-at .ensures)) (c .if1 .taken)
 
--- src/check.rt:134:9
 array-write-seen : tie.Need-array-write-seen Inv-loop μ-loop
 array-write-seen c = let e = c .before .cell-of .ensures ∙ ap entryCell (c .before .before .entry-at .ensures) in omega (arith, c .before .before .before .before .before .before .before .pre .cell (c .before .before .before .before .loop .k) (omega arith), c .before .before .before .before .loop .inv .2 .full)
 
--- src/check.rt:135:9
 add-k : tie.Need-add-k Inv-loop μ-loop
 add-k c = omega (arith, c .before .before .before .before .before .before .before .pre)
 
--- src/check.rt:129:5
 loop-less : tie.Need-loop-less Inv-loop μ-loop
 loop-less c = omega (arith, c .before .before .before .before .before .before .before .pre)
 
--- src/check.rt:129:5
 loop-again : tie.Need-loop-again Inv-loop μ-loop
 loop-again c = (c .before .before .before .before .loop .inv .0, omega arith, one-seen _ _ _ _ _ (c .before .before .before .before .loop .inv .2) (c .before .cell-of .ensures ∙ ap entryCell (c .before .before .entry-at .ensures)) (c .before .before .before .before .before .before .before .pre .cell (c .before .before .before .before .loop .k) (omega arith)) (c .if1 .left))
 
--- src/check.rt:122:1
 returns-2 : tie.Need-returns-2 Inv-loop μ-loop
 returns-2 c = all-seen _ _ _ _ _ (c .before .loop .inv .2) (omega arith)
 

@@ -5,38 +5,28 @@ use Rattle.context.proofs.Heads.{last-fixed}
 use borrow.Author.Needs.{needs}
 use Rattle.context.proofs.check.fixed_good.Statement.{statement}
 use Rattle.context.proofs.check.fixed_good.Tie as tie
-use Rattle.context.proofs.check.fixed_good.Reads as reads
-use Rattle.context.proofs.check.fixed_good.Lts as lts
 
--- src/check.rt:37:8
 shared-slice-read-if1 : tie.Need-shared-slice-read-if1
 shared-slice-read-if1 c = search needs
 
--- src/check.rt:38:9
 returns : tie.Need-returns
 returns c = not-so (λ f. c .if1 .taken (f .version))
 
--- src/check.rt:40:8
 shared-slice-read-if2 : tie.Need-shared-slice-read-if2
 shared-slice-read-if2 c = search needs
 
--- src/check.rt:41:9
 returns-2 : tie.Need-returns-2
 returns-2 c = not-so (λ f. c .if2 .taken (f .mode))
 
--- src/check.rt:43:8
 shared-slice-read-if3 : tie.Need-shared-slice-read-if3
 shared-slice-read-if3 c = search needs
 
--- src/check.rt:44:9
 returns-3 : tie.Need-returns-3
 returns-3 c = not-so (λ f. c .if3 .taken (f .rows))
 
--- src/check.rt:46:5
 shared-slice-read-result : tie.Need-shared-slice-read-result
 shared-slice-read-result c = search needs
 
--- src/check.rt:33:1
 returns-4 : tie.Need-returns-4
 returns-4 c = last-fixed _ (c .before .before .before .before .before .if1 .left) (c .before .before .before .if2 .left) (c .before .if3 .left)
 

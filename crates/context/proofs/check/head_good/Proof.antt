@@ -6,41 +6,28 @@ use native.Mathlib.Omega.{arith}
 use borrow.Author.Needs.{needs}
 use Rattle.context.proofs.check.head_good.Statement.{statement}
 use Rattle.context.proofs.check.head_good.Tie as tie
-use Rattle.context.proofs.check.head_good.Reads as reads
-use Rattle.context.proofs.check.head_good.Lts as lts
-use Rattle.context.proofs.check.fixed_good.Reads as fixed-good-reads
-use Rattle.context.proofs.layout.blocks_of.Reads as blocks-of-reads
-use Rattle.context.proofs.layout.steps_of.Reads as steps-of-reads
 
--- src/check.rt:53:9
 returns : tie.Need-returns
 returns c = not-so (λ h. c .if1 .taken (h .size))
 
--- src/check.rt:55:9
 fixed-good-requires : tie.Need-fixed-good-requires
 fixed-good-requires c κs = search needs
 
--- src/check.rt:56:9
 returns-2 : tie.Need-returns-2
 returns-2 c = not-so (λ h. refuted _ (c .before .fixed-good .ensures) (c .if2 .taken) (h .fixed))
 
--- src/check.rt:58:20
 blocks-of-requires : tie.Need-blocks-of-requires
 blocks-of-requires c κs = search needs
 
--- src/check.rt:59:9
 returns-3 : tie.Need-returns-3
 returns-3 c = many-blocks _ _ _ (c .before .blocks-of .ensures) (c .if3 .taken)
 
--- src/check.rt:61:17
 steps-of-requires : tie.Need-steps-of-requires
 steps-of-requires c κs = search needs
 
--- src/check.rt:61:5
 mul-result : tie.Need-mul-result
 mul-result c = omega (arith, c .steps-of .ensures .small)
 
--- src/check.rt:49:1
 returns-4 : tie.Need-returns-4
 returns-4 c = last-head _ _ _ _ (c .before .before .before .before .before .if1 .left) (shown _ (c .before .before .before .before .fixed-good .ensures) (c .before .before .before .if2 .left)) (c .before .before .blocks-of .ensures) (c .before .if3 .left) (c .steps-of .ensures)
 

@@ -2,58 +2,40 @@
 -- Assumes nothing.
 use Rattle.context.proofs.Tells.{not-so, refuted, shown}
 use Rattle.context.proofs.Heads.{cells-checked, last-good}
+use borrow.Author.Needs.{needs}
 use Rattle.context.proofs.check.is_good.Statement.{statement}
 use Rattle.context.proofs.check.is_good.Tie as tie
-use Rattle.context.proofs.check.is_good.Reads as reads
-use Rattle.context.proofs.check.is_good.Lts as lts
-use Rattle.context.proofs.check.blocks_good.Reads as blocks-good-reads
-use Rattle.context.proofs.check.cells_apart.Reads as cells-apart-reads
-use Rattle.context.proofs.check.head_good.Reads as head-good-reads
-use Rattle.context.proofs.check.marks_good.Reads as marks-good-reads
-use Rattle.context.proofs.check.total_steps.Reads as total-steps-reads
-use Rattle.context.proofs.layout.steps_of.Reads as steps-of-reads
 
--- src/check.rt:160:9
 head-good-requires : tie.Need-head-good-requires
 head-good-requires c κs = tt
 
--- src/check.rt:161:9
 returns : tie.Need-returns
 returns c = not-so (λ g. refuted _ (c .before .head-good .ensures) (c .if1 .taken) (g .head))
 
--- src/check.rt:163:9
 marks-good-requires : tie.Need-marks-good-requires
 marks-good-requires c κs = record { size = shown _ (c .before .head-good .ensures) (c .if1 .left) .size; few = c .before .before .before .pre }
 
--- src/check.rt:164:9
 returns-2 : tie.Need-returns-2
 returns-2 c = not-so (λ g. refuted _ (c .before .marks-good .ensures) (c .if2 .taken) (g .marks))
 
--- src/check.rt:166:9
 blocks-good-requires : tie.Need-blocks-good-requires
 blocks-good-requires c κs = let h = shown _ (c .before .before .before .head-good .ensures) (c .before .before .if1 .left) in record { context = record { size = h .size; few = h .fewBlocks }; few = c .before .before .before .before .before .pre }
 
--- src/check.rt:167:9
 returns-3 : tie.Need-returns-3
 returns-3 c = not-so (λ g. refuted _ (c .before .blocks-good .ensures) (c .if3 .taken) (g .blocks))
 
--- src/check.rt:169:9
 cells-apart-requires : tie.Need-cells-apart-requires
 cells-apart-requires c κs = cells-checked _ _ _ (c .before .before .before .before .before .before .before .pre) (shown _ (c .before .before .before .before .before .head-good .ensures) (c .before .before .before .before .if1 .left)) (shown _ (c .before .blocks-good .ensures) (c .if3 .left))
 
--- src/check.rt:170:9
 returns-4 : tie.Need-returns-4
 returns-4 c = not-so (λ g. refuted _ (c .before .cells-apart .ensures) (c .if4 .taken) (g .apart))
 
--- src/check.rt:172:5
 total-steps-requires : tie.Need-total-steps-requires
 total-steps-requires c κs = let h = shown _ (c .before .before .before .before .before .before .before .head-good .ensures) (c .before .before .before .before .before .before .if1 .left) in record { size = h .size; few = h .fewBlocks }
 
--- src/check.rt:172:29
 steps-of-requires : tie.Need-steps-of-requires
 steps-of-requires c κs = shown _ (c .before .before .before .before .before .before .before .before .head-good .ensures) (c .before .before .before .before .before .before .before .if1 .left) .size
 
--- src/check.rt:156:1
 returns-5 : tie.Need-returns-5
 returns-5 c = last-good _ _ _ _ _ (shown _ (c .before .before .before .before .before .before .before .before .before .head-good .ensures) (c .before .before .before .before .before .before .before .before .if1 .left)) (shown _ (c .before .before .before .before .before .before .before .marks-good .ensures) (c .before .before .before .before .before .before .if2 .left)) (shown _ (c .before .before .before .before .before .blocks-good .ensures) (c .before .before .before .before .if3 .left)) (shown _ (c .before .before .before .cells-apart .ensures) (c .before .before .if4 .left)) (c .before .total-steps .ensures) (c .steps-of .ensures)
 

@@ -7,9 +7,6 @@ use Rattle.context.specs.Context.{cells, markIn, Mark}
 use Rattle.context.proofs.Tells.{shown, one-fails, none-fails}
 use Rattle.context.proofs.check.marks_good.Statement.{statement}
 use Rattle.context.proofs.check.marks_good.Tie as tie
-use Rattle.context.proofs.check.marks_good.Reads as reads
-use Rattle.context.proofs.check.marks_good.Lts as lts
-use Rattle.context.proofs.check.mark_good.Reads as mark-good-reads
 
 abbrev Inv-loop : tie.InvT-loop
 Inv-loop context m cell₀ cell = (cell ≤ cells) × ((i : ℕ) → i < cell → Mark (markIn context i) i m)
@@ -17,39 +14,30 @@ Inv-loop context m cell₀ cell = (cell ≤ cells) × ((i : ℕ) → i < cell �
 abbrev μ-loop : tie.MeasureT-loop
 μ-loop context m cell₀ cell = cells - cell
 
--- src/check.rt:80:5
 loop-holds : tie.Need-loop-holds Inv-loop μ-loop
 loop-holds c = (omega arith, below-none _)
 
--- src/check.rt:81:31
 add-mark-good : tie.Need-add-mark-good Inv-loop μ-loop
 add-mark-good c = omega (arith, c .before .before .before .pre)
 
--- src/check.rt:81:23
 shared-slice-read-mark-good : tie.Need-shared-slice-read-mark-good Inv-loop μ-loop
 shared-slice-read-mark-good c = omega (arith, c .before .before .before .before .pre)
 
--- src/check.rt:81:13
 mark-good-requires : tie.Need-mark-good-requires Inv-loop μ-loop
 mark-good-requires c κs = omega (arith, c .before .before .before .before .pre)
 
--- src/check.rt:82:13
 returns : tie.Need-returns Inv-loop μ-loop
 returns c = one-fails _ _ _ _ (c .before .before .before .loop-test .taken) (c .before .mark-good .ensures) (c .if1 .taken)
 
--- src/check.rt:84:9
 add-cell : tie.Need-add-cell Inv-loop μ-loop
 add-cell c = omega (arith, c .before .before .before .before .before .before .pre)
 
--- src/check.rt:80:5
 loop-less : tie.Need-loop-less Inv-loop μ-loop
 loop-less c = omega (arith, c .before .before .before .before .before .before .pre)
 
--- src/check.rt:80:5
 loop-again : tie.Need-loop-again Inv-loop μ-loop
 loop-again c = (omega arith, below-more _ _ (c .before .before .before .before .loop .inv .1) (shown _ (c .before .mark-good .ensures) (c .if1 .left)))
 
--- src/check.rt:75:1
 returns-2 : tie.Need-returns-2 Inv-loop μ-loop
 returns-2 c = none-fails _ _ _ (c .loop-test .left) (c .before .loop .inv .1)
 

@@ -7,10 +7,6 @@ use Rattle.context.specs.Context.{blocksIn, stepsBefore}
 use Rattle.context.proofs.Stores.{steps-more, steps-all}
 use Rattle.context.proofs.check.total_steps.Statement.{statement}
 use Rattle.context.proofs.check.total_steps.Tie as tie
-use Rattle.context.proofs.check.total_steps.Reads as reads
-use Rattle.context.proofs.check.total_steps.Lts as lts
-use Rattle.context.proofs.layout.blocks_of.Reads as blocks-of-reads
-use Rattle.context.proofs.layout.entry_at.Reads as entry-at-reads
 
 abbrev Inv-loop : tie.InvT-loop
 Inv-loop context n steps₀ k₀ steps k = (n ≡ blocksIn context) × (k ≤ n) × (steps ≡ stepsBefore context k) × (steps ≤ 65535 * k)
@@ -18,39 +14,30 @@ Inv-loop context n steps₀ k₀ steps k = (n ≡ blocksIn context) × (k ≤ n)
 abbrev μ-loop : tie.MeasureT-loop
 μ-loop context n steps₀ k₀ steps k = n - k
 
--- src/check.rt:144:9
 blocks-of-requires : tie.Need-blocks-of-requires Inv-loop μ-loop
 blocks-of-requires c κs = omega (arith, c .before .pre)
 
--- src/check.rt:147:5
 loop-holds : tie.Need-loop-holds Inv-loop μ-loop
 loop-holds c = (c .blocks-of .ensures .is, omega arith, omega arith, omega arith)
 
--- src/check.rt:148:13
 entry-at-requires : tie.Need-entry-at-requires Inv-loop μ-loop
 entry-at-requires c κs = omega (arith, c .before .before .before .before .pre)
 
--- src/check.rt:149:18
 cast-steps : tie.Need-cast-steps Inv-loop μ-loop
 cast-steps c = omega (arith, c .before .before .before .before .before .before .pre)
 
--- src/check.rt:149:9
 add-steps : tie.Need-add-steps Inv-loop μ-loop
 add-steps c = omega (arith, c .before .before .before .before .before .before .pre)
 
--- src/check.rt:150:9
 add-k : tie.Need-add-k Inv-loop μ-loop
 add-k c = omega (arith, c .before .before .before .before .before .before .pre)
 
--- src/check.rt:147:5
 loop-less : tie.Need-loop-less Inv-loop μ-loop
 loop-less c = omega (arith, c .before .before .before .before .before .before .pre)
 
--- src/check.rt:147:5
 loop-again : tie.Need-loop-again Inv-loop μ-loop
 loop-again c = (c .before .before .before .loop .inv .0, omega arith, steps-more _ _ _ _ (c .before .before .before .loop .inv .2) (c .before .entry-at .ensures), omega arith)
 
--- src/check.rt:140:1
 returns : tie.Need-returns Inv-loop μ-loop
 returns c = steps-all _ _ _ _ (c .before .loop .inv .0) (c .before .loop .inv .1) (c .loop-test .left) (c .before .loop .inv .2)
 

@@ -4,39 +4,28 @@ use Rattle.context.specs.Entries.{entryAt}
 use borrow.Author.Needs.{needs}
 use Rattle.context.proofs.layout.entry_at.Statement.{statement}
 use Rattle.context.proofs.layout.entry_at.Tie as tie
-use Rattle.context.proofs.layout.entry_at.Reads as reads
-use Rattle.context.proofs.layout.entry_at.Lts as lts
-use Rattle.kinds.proofs.big_endian.u16_at.Reads as u16-at-reads
 
--- src/layout.rt:63:25
 mul-at : tie.Need-mul-at
 mul-at c = search needs
 
--- src/layout.rt:63:14
 add-at : tie.Need-add-at
 add-at c = search needs
 
--- src/layout.rt:65:21
 u16-at-requires : tie.Need-u16-at-requires
 u16-at-requires c κs = search needs
 
--- src/layout.rt:66:32
 add-u16-at : tie.Need-add-u16-at
 add-u16-at c = search needs
 
--- src/layout.rt:66:16
 u16-at-requires-2 : tie.Need-u16-at-requires-2
 u16-at-requires-2 c κs = search needs
 
--- src/layout.rt:67:32
 add-u16-at-2 : tie.Need-add-u16-at-2
 add-u16-at-2 c = search needs
 
--- src/layout.rt:67:16
 u16-at-requires-3 : tie.Need-u16-at-requires-3
 u16-at-requires-3 c κs = search needs
 
--- src/layout.rt:59:1
 returns : tie.Need-returns
 unfolding entryAt
 returns c = cc

@@ -9,11 +9,6 @@ use Rattle.context.specs.Tables.{wordOf, wordsIn}
 use Rattle.context.proofs.Stores.{words-none, words-more, words-all}
 use Rattle.context.proofs.load.load_blocks.Statement.{statement}
 use Rattle.context.proofs.load.load_blocks.Tie as tie
-use Rattle.context.proofs.load.load_blocks.Reads as reads
-use Rattle.context.proofs.load.load_blocks.Lts as lts
-use Rattle.context.proofs.layout.blocks_of.Reads as blocks-of-reads
-use Rattle.context.proofs.layout.entry_at.Reads as entry-at-reads
-use Rattle.context.proofs.load.word_of.Reads as word-of-reads
 
 abbrev Inv-loop : tie.InvT-loop
 Inv-loop context blocks₀ n k₀ blocks k = (n ≡ blocksIn context) × (k ≤ n) × (blocks ≡ write blocks₀ 0 (wordsIn context k))
@@ -21,43 +16,33 @@ Inv-loop context blocks₀ n k₀ blocks k = (n ≡ blocksIn context) × (k ≤ 
 abbrev μ-loop : tie.MeasureT-loop
 μ-loop context blocks₀ n k₀ blocks k = n - k
 
--- src/load.rt:36:9
 blocks-of-requires : tie.Need-blocks-of-requires Inv-loop μ-loop
 blocks-of-requires c κs = omega (arith, c .before .pre)
 
--- src/load.rt:38:5
 loop-holds : tie.Need-loop-holds Inv-loop μ-loop
 loop-holds c = (c .blocks-of .ensures .is, omega arith, words-none _ _)
 
--- src/load.rt:39:29
 entry-at-requires : tie.Need-entry-at-requires Inv-loop μ-loop
 entry-at-requires c κs = omega (arith, c .before .before .before .before .pre)
 
--- src/load.rt:39:21
 word-of-requires : tie.Need-word-of-requires Inv-loop μ-loop
 word-of-requires c κs = omega (arith, c .before .before .before .before .before .pre)
 
--- src/load.rt:39:9
 mul-blocks : tie.Need-mul-blocks Inv-loop μ-loop
 mul-blocks c = omega (arith, c .before .before .before .before .before .before .pre)
 
--- src/load.rt:39:9
 element-write-blocks : tie.Need-element-write-blocks Inv-loop μ-loop
 element-write-blocks c = omega (arith, c .before .before .before .before .before .before .pre)
 
--- src/load.rt:40:9
 add-k : tie.Need-add-k Inv-loop μ-loop
 add-k c = omega (arith, c .before .before .before .before .before .before .pre)
 
--- src/load.rt:38:5
 loop-less : tie.Need-loop-less Inv-loop μ-loop
 loop-less c = omega (arith, c .before .before .before .before .before .before .pre)
 
--- src/load.rt:38:5
 loop-again : tie.Need-loop-again Inv-loop μ-loop
 loop-again c = (c .before .before .before .loop .inv .0, omega arith, words-more _ _ _ _ _ (c .before .before .before .loop .inv .2) (c .word-of .ensures ∙ ap wordOf (c .before .entry-at .ensures)))
 
--- src/load.rt:32:1
 returns : tie.Need-returns Inv-loop μ-loop
 returns c = words-all _ _ _ _ _ (c .before .loop .inv .0) (c .before .loop .inv .1) (c .loop-test .left) (c .before .loop .inv .2)
 

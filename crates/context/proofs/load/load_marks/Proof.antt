@@ -9,8 +9,6 @@ use Rattle.context.specs.Context.{cells, marksAt}
 use Rattle.context.proofs.Copies.{nothing-written, mark-read, marks-read}
 use Rattle.context.proofs.load.load_marks.Statement.{statement}
 use Rattle.context.proofs.load.load_marks.Tie as tie
-use Rattle.context.proofs.load.load_marks.Reads as reads
-use Rattle.context.proofs.load.load_marks.Lts as lts
 
 abbrev Inv-loop : tie.InvT-loop
 Inv-loop context marks₀ cell₀ marks cell = (cell ≤ cells) × (marks ≡ write marks₀ 0 (take cell (drop marksAt context)))
@@ -18,35 +16,27 @@ Inv-loop context marks₀ cell₀ marks cell = (cell ≤ cells) × (marks ≡ wr
 abbrev μ-loop : tie.MeasureT-loop
 μ-loop context marks₀ cell₀ marks cell = cells - cell
 
--- src/load.rt:18:5
 loop-holds : tie.Need-loop-holds Inv-loop μ-loop
 loop-holds c = (omega arith, nothing-written _ _)
 
--- src/load.rt:19:31
 add-marks : tie.Need-add-marks Inv-loop μ-loop
 add-marks c = omega (arith, c .before .before .pre)
 
--- src/load.rt:19:23
 shared-slice-read-marks : tie.Need-shared-slice-read-marks Inv-loop μ-loop
 shared-slice-read-marks c = omega (arith, c .before .before .before .pre)
 
--- src/load.rt:19:9
 element-write-marks : tie.Need-element-write-marks Inv-loop μ-loop
 element-write-marks c = omega (arith, c .before .before .before .pre)
 
--- src/load.rt:20:9
 add-cell : tie.Need-add-cell Inv-loop μ-loop
 add-cell c = omega (arith, c .before .before .before .pre)
 
--- src/load.rt:18:5
 loop-less : tie.Need-loop-less Inv-loop μ-loop
 loop-less c = omega (arith, c .before .before .before .pre)
 
--- src/load.rt:18:5
 loop-again : tie.Need-loop-again Inv-loop μ-loop
 loop-again c = (omega arith, mark-read (c .before .before .before .args .context .now) _ _ _ (c .before .before .before .pre .size) (c .before .loop-test .taken) (c .before .before .loop .inv .1))
 
--- src/load.rt:13:1
 returns : tie.Need-returns Inv-loop μ-loop
 returns c = marks-read (c .before .before .args .context .now) _ _ _ (c .before .before .pre .size) (c .before .before .pre .full) (c .before .loop .inv .0) (c .loop-test .left) (c .before .loop .inv .1)
 

@@ -5,22 +5,16 @@ use Rattle.context.specs.Tables.{entryOf}
 use borrow.Author.Needs.{needs}
 use Rattle.context.proofs.store.entry_of.Statement.{statement}
 use Rattle.context.proofs.store.entry_of.Tie as tie
-use Rattle.context.proofs.store.entry_of.Reads as reads
-use Rattle.context.proofs.store.entry_of.Lts as lts
 
--- src/store.rt:50:21
 cast-t5 : tie.Need-cast-t5
 cast-t5 c = search needs
 
--- src/store.rt:51:16
 cast-t7 : tie.Need-cast-t7
 cast-t7 c = search needs
 
--- src/store.rt:52:16
 cast-t9 : tie.Need-cast-t9
 cast-t9 c = search needs
 
--- src/store.rt:44:1
 returns : tie.Need-returns
 unfolding entryOf
 returns c = refl

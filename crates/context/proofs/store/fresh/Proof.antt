@@ -4,27 +4,19 @@ use Rattle.context.proofs.Copies.{not-fresh, made-fresh}
 use borrow.Author.Needs.{needs}
 use Rattle.context.proofs.store.fresh.Statement.{statement}
 use Rattle.context.proofs.store.fresh.Tie as tie
-use Rattle.context.proofs.store.fresh.Reads as reads
-use Rattle.context.proofs.store.fresh.Lts as lts
-use Rattle.context.proofs.store.clear.Reads as clear-reads
 
--- src/store.rt:93:9
 returns : tie.Need-returns
 returns c = not-fresh _ (c .if1 .taken)
 
--- src/store.rt:95:5
 clear-requires : tie.Need-clear-requires
 clear-requires c κs = search needs
 
--- src/store.rt:96:5
 slice-write-context : tie.Need-slice-write-context
 slice-write-context c = search needs
 
--- src/store.rt:89:1
 same-length : tie.Need-same-length
 same-length c = search needs
 
--- src/store.rt:89:1
 returns-2 : tie.Need-returns-2
 returns-2 c = made-fresh _ _ (c .before .before .before .before .if1 .left) (c .before .before .clear .ensures)
 

@@ -7,43 +7,31 @@ use Rattle.context.specs.Entries.{entryBytes}
 use borrow.Author.Needs.{needs}
 use Rattle.context.proofs.store.put_entry.Statement.{statement}
 use Rattle.context.proofs.store.put_entry.Tie as tie
-use Rattle.context.proofs.store.put_entry.Reads as reads
-use Rattle.context.proofs.store.put_entry.Lts as lts
-use Rattle.kinds.proofs.big_endian.put_u16.Reads as put-u16-reads
 
--- src/store.rt:60:25
 mul-at : tie.Need-mul-at
 mul-at c = search needs
 
--- src/store.rt:60:14
 add-at : tie.Need-add-at
 add-at c = search needs
 
--- src/store.rt:61:5
 put-u16-requires : tie.Need-put-u16-requires
 put-u16-requires c κs = search needs
 
--- src/store.rt:62:22
 add-put-u16 : tie.Need-add-put-u16
 add-put-u16 c = search needs
 
--- src/store.rt:62:5
 put-u16-requires-2 : tie.Need-put-u16-requires-2
 put-u16-requires-2 c κs = search needs
 
--- src/store.rt:63:22
 add-put-u16-2 : tie.Need-add-put-u16-2
 add-put-u16-2 c = search needs
 
--- src/store.rt:63:5
 put-u16-requires-3 : tie.Need-put-u16-requires-3
 put-u16-requires-3 c κs = search needs
 
--- src/store.rt:56:1
 same-length : tie.Need-same-length
 same-length c = search needs
 
--- src/store.rt:56:1
 returns : tie.Need-returns
 unfolding entryBytes u16Bytes
 returns c =

@@ -7,39 +7,28 @@ use Rattle.context.specs.Tables.{counterBytes}
 use borrow.Author.Needs.{needs}
 use Rattle.context.proofs.store.store_counters.Statement.{statement}
 use Rattle.context.proofs.store.store_counters.Tie as tie
-use Rattle.context.proofs.store.store_counters.Reads as reads
-use Rattle.context.proofs.store.store_counters.Lts as lts
-use Rattle.kinds.proofs.big_endian.put_u16.Reads as put-u16-reads
 
--- src/store.rt:27:33
 cast-put-u16 : tie.Need-cast-put-u16
 cast-put-u16 c = search needs
 
--- src/store.rt:27:5
 put-u16-requires : tie.Need-put-u16-requires
 put-u16-requires c κs = search needs
 
--- src/store.rt:28:32
 cast-put-u16-2 : tie.Need-cast-put-u16-2
 cast-put-u16-2 c = search needs
 
--- src/store.rt:28:5
 put-u16-requires-2 : tie.Need-put-u16-requires-2
 put-u16-requires-2 c κs = search needs
 
--- src/store.rt:29:38
 cast-put-u16-3 : tie.Need-cast-put-u16-3
 cast-put-u16-3 c = search needs
 
--- src/store.rt:29:5
 put-u16-requires-3 : tie.Need-put-u16-requires-3
 put-u16-requires-3 c κs = search needs
 
--- src/store.rt:23:1
 same-length : tie.Need-same-length
 same-length c = search needs
 
--- src/store.rt:23:1
 returns : tie.Need-returns
 unfolding counterBytes u16Bytes
 returns c =
