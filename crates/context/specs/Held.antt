@@ -7,7 +7,7 @@ use Prim.Native.Nat.{ℕ, zero, suc, _+_, _*_, _/_, _%_, _≤_, _<_}
 use native.Mathlib.Omega.{arith}
 use native.Mathlib.Decide.{le-ind}
 use lib.ListN.{length, getD, take, drop, replicate, length-take, length-drop, length-set, length-replicate, List·getD-append}
-use lib.Seq.{slice, getD-at, getD-take, getD-drop, getD-set-same, getD-set-other, ext-getD}
+use lib.Seq.{slice, length-take-le, getD-at, getD-take, getD-drop, getD-set-same, getD-set-other, ext-getD}
 use Rattle.kinds.specs.Steps.{stepSize}
 use Rattle.frames.specs.Order.{expressionLimit}
 use Rattle.kinds.specs.BigEndian.{u16At}
@@ -155,6 +155,14 @@ words-at x n k h =
     (λ n g e. List·getD-append (wordsIn x n) _ 0 k (rw words-length g) ∙ e)
     n h
 
+-- words that say a context's entries are those that it is loaded into
+pub held-words : (x words : List ℕ) (n : ℕ) → Entries x words n → n ≤ length words → wordsIn x n ≡ take n words
+held-words x words n e h =
+    ext-getD 0 (wordsIn x n) (take n words) (words-length x n ∙ sym (length-take-le n words h))
+    (λ k l.
+    let r : k < n = omega (arith, words-length x n) in
+    words-at x n k r ∙ ap wordOf (e k r) ∙ stored.word-back (getD words k 0) ∙ sym (getD-take n words k 0 r))
+
 -- A GOOD CONTEXT IS HELD by the tables that it is loaded into
 pub loaded-held : (x words : List ℕ) (m room : ℕ) → m ≤ expressionLimit → length words ≡ cells → Good x m room → Held x (marksIn x) (write words 0 (wordsIn x (blocksIn x))) (blocksIn x) (stepsIn x) (temporariesIn x)
 loaded-held x words m room f l g = record {
@@ -233,6 +241,13 @@ stored-held x marks₀ words₀ from steps₀ temporaries₀ marks words to step
         ∙ stored.entry-past-counters x to steps temporaries (h .size) k
         ∙ h .entries k l
         ∙ ap entryOf (sym (g .kept k l))
+
+-- A GOOD CONTEXT STAYS GOOD where the tables that are stored are sound and have its blocks at the front
+pub stored-good : (x zeros marks words : List ℕ) (to steps temporaries m room₀ room : ℕ) → m ≤ expressionLimit → length zeros ≡ cells → Good x m room₀ → Grows (write zeros 0 (wordsIn x (blocksIn x))) marks words (blocksIn x) to → Sound marks words to steps m room → Good (storedIn x marks words (blocksIn x) to steps temporaries) m room
+stored-good x zeros marks words to steps temporaries m room₀ room f z g w s =
+    sound-good (storedIn x marks words (blocksIn x) to steps temporaries) marks words to steps temporaries m room
+    (stored-held x (marksIn x) (write zeros 0 (wordsIn x (blocksIn x))) (blocksIn x) (stepsIn x) (temporariesIn x) marks words to steps temporaries (loaded-held x zeros m room₀ f z g) w)
+    s
 
 -- ── fresh ────────────────────────────────────────────────────────────────────
 fresh-at : (n j : ℕ) → (j ≡ rowsAt → ⊥) → getD (freshBytes n) j 0 ≡ 0

@@ -107,6 +107,9 @@ module _ (x : List ℕ) (b s t : ℕ) (size : length x ≡ contextSize) where
   entry-past-counters k = entry-left x 4 (counterBytes b s t) (placeOf k) (inr (rw (counters-sized b s t) (omega arith)))
 
 -- ── marks ────────────────────────────────────────────────────────────────────
+pub marks-full : (x : List ℕ) → length x ≡ contextSize → length (marksIn x) ≡ cells
+marks-full x h = simp (length-take, length-drop) (omega arith)
+
 module _ (x s : List ℕ) (size : length x ≡ contextSize) (full : length s ≡ cells) where
   pub marks-stored : marksIn (withMarks x s) ≡ s
   marks-stored = part-written x marksAt cells s full (omega arith)
