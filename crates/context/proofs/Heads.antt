@@ -2,7 +2,7 @@
 -- Assumes nothing.
 use Prim.Native.Nat.{ℕ, _+_, _*_, _≤_, _<_}
 use mathlib.Core.Path.{_≡_, sym, _∙_, ap}
-use mathlib.Core.Bool.{Bool, false}
+use mathlib.Core.Bool.{false}
 use mathlib.Core.List.{List}
 use native.Mathlib.Omega.{arith}
 use lib.ListN.{length, getD}
@@ -11,7 +11,7 @@ use Rattle.kinds.specs.Steps.{stepSize}
 use Rattle.frames.specs.Order.{expressionLimit}
 use Rattle.context.specs.declared.layout.Entry.{Entry}
 use Rattle.context.specs.Context.{spareAt, marksAt, cells, contextSize, blocksIn, stepsIn, markIn, entryIn, entryCell, cellIn, stepsBefore, Fixed, Head, Mark, Marks, Block, Blocks, CellsApart, Good, Exactly}
-use Rattle.context.specs.Tables.{Read16, CellsChecked, Tabled}
+use Rattle.context.specs.Tables.{Read16, CellsChecked}
 use Rattle.context.proofs.Tells.{not-so, for-all, eqb-tells, leb-tells}
 
 -- ── head ─────────────────────────────────────────────────────────────────────

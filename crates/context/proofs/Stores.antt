@@ -1,11 +1,11 @@
 -- The loops over the block table: words read, steps added up, entries written.
 -- Assumes nothing.
-use Prim.Native.Nat.{ℕ, suc, _+_, _*_, _≤_, _<_}
+use Prim.Native.Nat.{ℕ, _+_, _≤_, _<_}
 use mathlib.Core.Path.{_≡_, refl, sym, _∙_, ap}
 use mathlib.Core.List.{List, [], _∷_, _++_}
 use native.Mathlib.Omega.{arith}
 use native.Mathlib.Numerals.{add-one}
-use lib.ListN.{length, getD, set, length-append}
+use lib.ListN.{length, getD, set}
 use lib.Seq.{slice, slice-cons, slice-empty}
 use Rattle.kinds.specs.Write.{write, write-none, write-then, write-length}
 use Rattle.context.specs.declared.layout.Entry.{Entry}

@@ -1,12 +1,12 @@
 -- An entry of a context's block table as it stands in a list of bytes, and the laws of reading and writing entries.
 -- Assumes nothing.
 use mathlib.Core.Path.{_≡_, refl}
-use mathlib.Core.List.{List, [], _∷_, _++_}
+use mathlib.Core.List.{List, _++_}
 use Prim.Native.Nat.{ℕ, _+_}
 use native.Mathlib.Nat.{add-zero, div-add-mod'}
 use native.Mathlib.Omega.{arith}
-use lib.ListN.{length, getD}
-use Rattle.kinds.specs.Records.{Same, same-part, Layout}
+use lib.ListN.{length}
+use Rattle.kinds.specs.Records.{Same, Layout}
 use Rattle.kinds.specs.BigEndian.{u16At, u16Bytes, u16-part}
 use Rattle.context.specs.declared.layout.Entry.{Entry}
 

@@ -1,7 +1,7 @@
 -- TABLES THAT HOLD A CONTEXT: marks by cell and a word for each block, beside the counters. A good context is loaded into tables that hold
 -- it; stored tables are held by what is written; and whether a context is good can be said of its tables. Assumes nothing.
 use mathlib.Core.Path.{_≡_, refl, sym, _∙_, ap, subst}
-use mathlib.Core.List.{List, [], _∷_}
+use mathlib.Core.List.{List, []}
 use mathlib.Core.Logic.{⊎-elim}
 use Prim.Native.Nat.{ℕ, zero, suc, _+_, _*_, _/_, _%_, _≤_, _<_}
 use native.Mathlib.Omega.{arith}

@@ -2,12 +2,12 @@
 -- Assumes nothing.
 use mathlib.Core.Path.{_≡_, refl, sym, _∙_, ap}
 use mathlib.Core.List.{List, [], _∷_, _++_, append-assoc}
-use mathlib.Core.Logic.{_⊎_, inl, inr, ⊎-elim}
+use mathlib.Core.Logic.{inl, inr}
 use Prim.Native.Nat.{ℕ, zero, suc, _+_, _-_, _*_, _/_, _%_, _≤_, _<_}
 use native.Mathlib.Omega.{arith}
 use native.Mathlib.Nat.{div-add-mod'}
-use lib.ListN.{length, getD, take, drop, length-append, length-take, length-drop, List·getD-append}
-use lib.Seq.{slice, take-at, drop-at, getD-at, getD-take, getD-drop, ext-getD, length-slice}
+use lib.ListN.{length, getD, take, drop, length-append, length-take, length-drop}
+use lib.Seq.{slice, take-at, drop-at, getD-take, getD-drop, ext-getD, length-slice}
 use Rattle.kinds.specs.Write.{write, write-is, write-append, write-length, write-there, write-before, write-after}
 use Rattle.kinds.specs.Records.{Same, Apart, same-written, put-read, put-kept}
 use Rattle.frames.specs.Order.{expressionLimit}
@@ -15,7 +15,7 @@ use Rattle.kinds.specs.BigEndian.{u16At, u16Bytes, u16Layout, u16-part}
 use Rattle.context.specs.declared.layout.Entry.{Entry}
 use Rattle.context.specs.Entries.{entrySize, entryAt, entryBytes, entry-sized, entryLayout}
 use Rattle.context.specs.Context.{marksAt, cells, contextSize, placeOf, blocksIn, stepsIn, temporariesIn, markIn, entryIn, entryCell, Fixed}
-use Rattle.context.specs.Tables.{marksIn, wordOf, entryOf, wordsIn, words-length, tableBytes, counterBytes, withCounters, withMarks, withBlocks}
+use Rattle.context.specs.Tables.{marksIn, wordOf, entryOf, tableBytes, counterBytes, withCounters, withMarks, withBlocks}
 
 -- ── a word and its entry ─────────────────────────────────────────────────────
 pub word-back : (w : ℕ) → wordOf (entryOf w) ≡ w

@@ -18,7 +18,7 @@ ghost use mathlib.Core.Path.{_≡_};
 ghost use Prim.Native.Nat.{_<_, _/_};
 ghost use lib.ListN.{length, replicate};
 ghost use Rattle.kinds.specs.Write.{write};
-ghost use Rattle.context.specs.Context.{contextSize, cells, placeOf};
+ghost use Rattle.context.specs.Context.{cells, placeOf};
 ghost use Rattle.context.specs.Entries.{entryBytes};
 ghost use Rattle.context.specs.Tables.{entryOf, withCounters, withMarks, withBlocks, EntryAsks, MarksAsk, CountersAsk, StoreAsks, Freshened};
 

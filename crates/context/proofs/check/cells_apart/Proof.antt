@@ -1,6 +1,6 @@
 -- `context::check::cells_apart` meets its contract: the cells of the blocks before k, and no others, are marked as seen.
 -- Assumes nothing.
-use Prim.Native.Nat.{_≤_, _<_, _-_}
+use Prim.Native.Nat.{_≤_, _-_}
 use mathlib.Core.Path.{_≡_, _∙_, ap}
 use native.Mathlib.Omega.{arith}
 use Rattle.context.specs.Context.{cells, blocksIn, entryCell, cellIn}

@@ -2,7 +2,6 @@
 -- Assumes nothing.
 use Rattle.context.proofs.Tells.{not-so, refuted, shown}
 use Rattle.context.proofs.Heads.{cells-checked, last-good}
-use borrow.Author.Needs.{needs}
 use Rattle.context.proofs.check.is_good.Statement.{statement}
 use Rattle.context.proofs.check.is_good.Tie as tie
 
