@@ -1,0 +1,7 @@
+-- The definitions that the contracts cite, and the laws on them that other crates use.
+pub mod Raw
+pub mod RawOf
+pub mod Marking
+pub mod Flags
+pub mod Numbered
+pub mod Lists
