@@ -1,1 +1,4 @@
--- Laws that the proofs share.
+-- Lemmas over plain variables, which the functions' proofs cite.
+pub mod Tests
+pub mod Turns
+pub mod Built

@@ -5,3 +5,5 @@ pub mod Marking
 pub mod Flags
 pub mod Numbered
 pub mod Lists
+pub mod Results
+pub mod Copies

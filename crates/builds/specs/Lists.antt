@@ -16,7 +16,7 @@ use Rattle.frames.specs.Tables.{first}
 use Rattle.pool.specs.Laws.Tabled.{first-length}
 use Rattle.starkinfo_codegen.specs.Ordering.{cellOf}
 use Rattle.builds.specs.Raw.{RawBlock, RawSegment, cellIn, stepsIn, startOf, recordsFrom, rawBlockAt, rawBlocks, isBlock, standing, inE, every, linear, plain, rawSegment, flaggedIn}
-use Rattle.builds.specs.Numbered.{standTo, stands, inTable, skipsIn, skipsAt, takenAt, takenTo, listTo}
+use Rattle.builds.specs.Numbered.{standTo, stands, inTable, skipsIn, skipsAt, takenAt, takenTo, listTo, BlocksAsk}
 use Rattle.builds.specs.declared.build.Which.{Which}
 use Rattle.builds.specs.declared.build.Which.the-variants as which
 
@@ -30,15 +30,9 @@ listOf which.Last s = s .last
 abbrev pub listIn : List ℕ → List ℕ → List ℕ → ℕ → ℕ → Which → List Step
 listIn t x l n m w = listOf w (rawSegment (flaggedIn x m) (rawBlocks t l n))
 
-pub record SizeAsks (t : List ℕ) (n m : ℕ) : Type 0 where
-  pub blocks : length t ≡ 1024
-  pub few : n ≤ 1024
-  pub expressions : m ≤ 512
-  pub steps : startOf t n ≤ 65535
-
 -- the list has the steps of the blocks, and there is room for the answer
 pub record CopyAsks (t x l : List ℕ) (n m : ℕ) (w : Which) (room : ℕ) : Type 0 where
-  pub size : SizeAsks t n m
+  pub blocks : BlocksAsk t n m
   pub there : stepSize * startOf t n ≤ length l
   pub fits : stepSize * length (listIn t x l n m w) ≤ room
 
@@ -104,6 +98,7 @@ abbrev pub noCells : List ℕ
 noCells = replicate 1024 0
 
 pub in-is : (t x l : List ℕ) (n m : ℕ) → m ≤ 512 → (e : ℕ) → inTable x m (standTo t n noCells) e ≡ inE (flaggedIn x m) (rawBlocks t l n) e
+unfolding inTable
 in-is t x l n m few e = go (ltb e m) refl
   where
     at : (r : ℕ) → r < 2 → e < 512 → stands (standTo t n noCells) (cellOf e r) ≡ standing e r (rawBlocks t l n)
@@ -138,7 +133,7 @@ linear-snoc s k (x ∷ xs) b = rw (linear-snoc s (suc k) xs b, add-suc, suc-add)
     go false = sym (append-assoc (x .records) (linear s (suc k) xs) last)
 
 pub linear-is : (s : ℕ → RawBlock → Bool) (t l : List ℕ) (n : ℕ) → linear s 0 (rawBlocks t l n) ≡ listTo (λ k. s k (rawBlockAt t l k)) t l n
-unfolding first listTo
+unfolding first listTo takenAt
 linear-is s t l zero = refl
 linear-is s t l (suc n) =
     let b = rawBlockAt t l n in
@@ -155,6 +150,7 @@ every-linear k (b ∷ bs) = ap (λ (z : List Step). b .records ++ z) (every-line
 
 -- THE LIST OF A BUILD, by number
 pub list-is : (t x l : List ℕ) (n m : ℕ) (w : Which) → m ≤ 512 → listIn t x l n m w ≡ listTo (skipsAt t x m (standTo t n noCells) w) t l n
+unfolding skipsIn
 list-is t x l n m which.First few = every-linear 0 (rawBlocks t l n) ∙ linear-is (λ k b. false) t l n
 list-is t x l n m which.I few =
     linear-is (λ k b. inE (flaggedIn x m) (rawBlocks t l n) k && plain b) t l n

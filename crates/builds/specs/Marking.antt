@@ -24,15 +24,6 @@ unfoldable pub release : List ℕ → ℕ → List ℕ → List ℕ
 release x zero s = s
 release x (suc m) s = releaseOne x m (release x m s)
 
--- a table of marks in full
-pub record ReleaseOneAsks (s : List ℕ) (e : ℕ) : Type 0 where
-  pub size : length s ≡ 1024
-  pub there : e < 512
-
-pub record ReleaseAsks (s : List ℕ) (m : ℕ) : Type 0 where
-  pub size : length s ≡ 1024
-  pub few : m ≤ 512
-
 -- ── laws ─────────────────────────────────────────────────────────────────────
 pub one-length : (x : List ℕ) (e : ℕ) (s : List ℕ) → length (releaseOne x e s) ≡ length s
 unfolding releaseOne

@@ -1,10 +1,9 @@
 -- A build by block number, as it is made from tables: which cells stand, which blocks are skipped, and the steps that a list takes.
 -- Assumes nothing: these are definitions.
 use Prim.Native.Nat.{ℕ, zero, suc, _+_, _*_, _%_, _<_, _≤_}
-use mathlib.Core.Path.{_≡_}
 use mathlib.Core.Bool.{Bool, false, _&&_, cond}
 use mathlib.Core.List.{List, [], _++_}
-use lib.ListN.{length, getD, set}
+use lib.ListN.{getD, set}
 use lib.Dec.{eqb, ltb}
 use Rattle.kinds.specs.Steps.{stepSize}
 use Rattle.kinds.specs.declared.step.Step.{Step}
@@ -23,11 +22,11 @@ stands s c = ltb 0 (getD s c 0)
 
 -- ── which blocks are skipped ─────────────────────────────────────────────────
 -- e is in E
-abbrev pub inTable : List ℕ → ℕ → List ℕ → ℕ → Bool
+unfoldable pub inTable : List ℕ → ℕ → List ℕ → ℕ → Bool
 inTable x m s e = flaggedIn x m e && (stands s (2 * e) && stands s (2 * e + 1))
 
 -- a block with such a word, where its number is in E or not
-abbrev pub skipsIn : Which → Bool → ℕ → Bool
+unfoldable pub skipsIn : Which → Bool → ℕ → Bool
 skipsIn which.First inside word = false
 skipsIn which.I inside word = inside && eqb (cellIn word % 2) 0
 skipsIn which.Last inside word = inside
@@ -38,7 +37,7 @@ skipsAt t x m s w k = skipsIn w (inTable x m s k) (getD t k 0)
 
 -- ── what a list takes ────────────────────────────────────────────────────────
 -- how many steps of block number k
-abbrev pub takenAt : (ℕ → Bool) → List ℕ → ℕ → ℕ
+unfoldable pub takenAt : (ℕ → Bool) → List ℕ → ℕ → ℕ
 takenAt skips t k = cond (skips k) 0 (stepsIn (getD t k 0))
 
 -- and of the first n blocks
@@ -55,30 +54,18 @@ pub record CopyStepsAsks (room room′ from to count : ℕ) : Type 0 where
   pub there : stepSize * (from + count) ≤ room
   pub fits : stepSize * (to + count) ≤ room′
 
-pub record StandAsks (t s : List ℕ) (n : ℕ) : Type 0 where
-  pub blocks : length t ≡ 1024
-  pub standing : length s ≡ 1024
-  pub few : n ≤ 1024
-
-pub record InAsks (s : List ℕ) (m : ℕ) : Type 0 where
-  pub standing : length s ≡ 1024
-  pub expressions : m ≤ 512
-
-pub record TakenAsks (t s : List ℕ) (m k : ℕ) : Type 0 where
-  pub blocks : length t ≡ 1024
-  pub standing : length s ≡ 1024
+pub record TakenAsks (m k : ℕ) : Type 0 where
   pub expressions : m ≤ 512
   pub there : k < 1024
 
--- the steps of n blocks can be counted
-pub record CountAsks (t s : List ℕ) (n m : ℕ) : Type 0 where
-  pub blocks : length t ≡ 1024
-  pub standing : length s ≡ 1024
+-- n blocks of table t, whose steps can be counted, and m expressions
+pub record BlocksAsk (t : List ℕ) (n m : ℕ) : Type 0 where
   pub few : n ≤ 1024
   pub expressions : m ≤ 512
   pub steps : startOf t n ≤ 65535
 
+-- the list has the steps of the blocks, and there is room for those that are taken
 pub record CopyTakenAsks (t x s : List ℕ) (n m : ℕ) (w : Which) (room room′ : ℕ) : Type 0 where
-  pub count : CountAsks t s n m
+  pub blocks : BlocksAsk t n m
   pub there : stepSize * startOf t n ≤ room
   pub fits : stepSize * takenTo (skipsAt t x m s w) t n ≤ room′

@@ -11,7 +11,7 @@ ghost use Rattle.builds.specs.Raw.{cellIn, stepsIn, recordsFrom};
 ghost use Rattle.builds.specs.Numbered.{CopyStepsAsks};
 
 // A block's cell is below this.
-const CELLS: u64 = JOB_LIMIT as u64;
+pub const CELLS: u64 = JOB_LIMIT as u64;
 
 pub fn cell_of(word: u64) -> usize
     ensures { λ r. ⌜ r ≡ cellIn word ⌝ }

@@ -9,12 +9,13 @@ use starkinfo_codegen::order::JOB_LIMIT;
 use starkinfo_codegen::out::ROWS;
 ghost use mathlib.Core.Path.{_≡_};
 ghost use mathlib.Core.List.{List};
-ghost use Prim.Native.Nat.{ℕ};
+ghost use Prim.Native.Nat.{ℕ, _≤_};
 ghost use lib.ListN.{length};
 ghost use Rattle.kinds.specs.Write.{write};
+ghost use Rattle.frames.specs.Order.{expressionLimit};
 ghost use Rattle.kinds.specs.Steps.{stepsBytes};
-ghost use Rattle.builds.specs.Numbered.{standTo, inTable, skipsIn, skipsAt, takenAt, takenTo, listTo, StandAsks, InAsks, TakenAsks, CountAsks, CopyTakenAsks};
-ghost use Rattle.builds.specs.Lists.{listIn, SizeAsks, CopyAsks};
+ghost use Rattle.builds.specs.Numbered.{standTo, inTable, skipsIn, skipsAt, takenAt, takenTo, listTo, TakenAsks, BlocksAsk, CopyTakenAsks};
+ghost use Rattle.builds.specs.Lists.{listIn, CopyAsks};
 
 pub enum Which {
     First,
@@ -26,7 +27,7 @@ const STANDS: u8 = 1;
 
 // Notes the cells of the first n blocks.
 fn fill_standing(blocks: &[u64; JOB_LIMIT], standing: &mut [u8; JOB_LIMIT], n: usize)
-    requires { ⌜ StandAsks (now blocks) (now standing) n ⌝ }
+    requires { ⌜ n ≤ 1024 ⌝ }
     ensures { λ _. ⌜ now (standing .exit) ≡ standTo (now (blocks .entry)) n (now (standing .entry)) ⌝ }
 {
     let mut k: usize = 0;
@@ -44,7 +45,7 @@ fn in_e(
     m: usize,
     e: usize,
 ) -> bool
-    requires { ⌜ InAsks (now standing) m ⌝ }
+    requires { ⌜ m ≤ expressionLimit ⌝ }
     ensures { λ r. ⌜ r ≡ inTable (now (expressions .entry)) m (now (standing .entry)) e ⌝ }
 {
     if m <= e {
@@ -79,7 +80,7 @@ fn taken(
     which: Which,
     k: usize,
 ) -> usize
-    requires { ⌜ TakenAsks (now blocks) (now standing) m k ⌝ }
+    requires { ⌜ TakenAsks m k ⌝ }
     ensures { λ r. ⌜ r ≡ takenAt (skipsAt (now (blocks .entry)) (now (expressions .entry)) m (now (standing .entry)) which) (now (blocks .entry)) k ⌝ }
 {
     let word = blocks[k];
@@ -97,7 +98,7 @@ fn count_taken(
     m: usize,
     which: Which,
 ) -> usize
-    requires { ⌜ CountAsks (now blocks) (now standing) n m ⌝ }
+    requires { ⌜ BlocksAsk (now blocks) n m ⌝ }
     ensures { λ r. ⌜ r ≡ takenTo (skipsAt (now (blocks .entry)) (now (expressions .entry)) m (now (standing .entry)) which) (now (blocks .entry)) n ⌝ }
 {
     let mut steps: usize = 0;
@@ -142,7 +143,7 @@ pub fn list_size(
     m: usize,
     which: Which,
 ) -> usize
-    requires { ⌜ SizeAsks (now blocks) n m ⌝ }
+    requires { ⌜ BlocksAsk (now blocks) n m ⌝ }
     ensures { λ r. ⌜ ((l : List ℕ) → r ≡ length (listIn (now (blocks .entry)) (now (expressions .entry)) l n m which)) ⌝ }
 {
     let mut standing = [0u8; JOB_LIMIT];

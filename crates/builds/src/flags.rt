@@ -4,9 +4,10 @@ use frames::tables::expression_at;
 use starkinfo_codegen::order::JOB_LIMIT;
 use starkinfo_codegen::out::ROWS;
 ghost use mathlib.Core.Path.{_≡_};
-ghost use Prim.Native.Nat.{_<_};
+ghost use Prim.Native.Nat.{_<_, _≤_};
+ghost use Rattle.frames.specs.Order.{expressionLimit};
 ghost use Rattle.builds.specs.Raw.{bitIn, flaggedBy, releasedBy};
-ghost use Rattle.builds.specs.Marking.{releaseOne, release, ReleaseOneAsks, ReleaseAsks};
+ghost use Rattle.builds.specs.Marking.{releaseOne, release};
 
 const KEEP: u8 = 1;
 
@@ -50,7 +51,7 @@ fn released(flags: u8) -> bool
 }
 
 fn release_one(expressions: &[u64; EXPRESSION_LIMIT], marks: &mut [u8; JOB_LIMIT], e: usize)
-    requires { ⌜ ReleaseOneAsks (now marks) e ⌝ }
+    requires { ⌜ e < expressionLimit ⌝ }
     ensures { λ _. ⌜ now (marks .exit) ≡ releaseOne (now (expressions .entry)) e (now (marks .entry)) ⌝ }
 {
     if released(expression_at(expressions, e).flags) {
@@ -66,7 +67,7 @@ pub fn mark_released(
     marks: &mut [u8; JOB_LIMIT],
     m: usize,
 )
-    requires { ⌜ ReleaseAsks (now marks) m ⌝ }
+    requires { ⌜ m ≤ expressionLimit ⌝ }
     ensures { λ _. ⌜ now (marks .exit) ≡ release (now (expressions .entry)) m (now (marks .entry)) ⌝ }
 {
     let mut e: usize = 0;

@@ -2,3 +2,4 @@
 pub mod blocks;
 pub mod build;
 pub mod flags;
+pub mod result;

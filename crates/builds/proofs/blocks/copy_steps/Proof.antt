@@ -1,55 +1,46 @@
+-- `builds::blocks::copy_steps` meets its contract: the steps before i are copied.
+-- Assumes nothing.
+use Prim.Native.Nat.{_-_}
+use native.Mathlib.Omega.{arith}
+use Rattle.builds.proofs.Turns.{Copied, none-copied, one-copied, all-copied}
 use Rattle.builds.proofs.blocks.copy_steps.Statement.{statement}
 use Rattle.builds.proofs.blocks.copy_steps.Tie as tie
-use Rattle.builds.proofs.blocks.copy_steps.Reads as reads
-use Rattle.builds.proofs.blocks.copy_steps.Lts as lts
-use Rattle.kinds.proofs.step.nth_step.Reads as nth-step-reads
-use Rattle.kinds.proofs.step.put_nth_step.Reads as put-nth-step-reads
 
 abbrev Inv-loop : tie.InvT-loop
-Inv-loop list out₀ from to count i₀ out i = ?
+Inv-loop list out₀ from to count i₀ out i = Copied list out₀ out from to count i
 
 abbrev μ-loop : tie.MeasureT-loop
-μ-loop list out₀ from to count i₀ out i = ?
+μ-loop list out₀ from to count i₀ out i = count - i
 
--- src/blocks.rt:34:5
 loop-holds : tie.Need-loop-holds Inv-loop μ-loop
-loop-holds c = ?
+loop-holds c = none-copied _ _ _ _ _
 
--- src/blocks.rt:35:27
 add-put-nth-step : tie.Need-add-put-nth-step Inv-loop μ-loop
-add-put-nth-step c = ?
+add-put-nth-step c = omega (arith, c .before .loop-test .taken, c .before .before .before .before .before .pre .fits, c .before .before .before .before .before .good)
 
--- src/blocks.rt:35:50
 add-nth-step : tie.Need-add-nth-step Inv-loop μ-loop
-add-nth-step c = ?
+add-nth-step c = omega (arith, c .before .loop-test .taken, c .before .before .before .before .before .pre .there, c .before .before .before .before .before .good)
 
--- src/blocks.rt:35:35
 nth-step-requires : tie.Need-nth-step-requires Inv-loop μ-loop
-nth-step-requires c κs = ?
+nth-step-requires c κs = omega (arith, c .before .loop-test .taken, c .before .before .before .before .before .pre .there)
 
--- src/blocks.rt:35:9
 put-nth-step-requires : tie.Need-put-nth-step-requires Inv-loop μ-loop
-put-nth-step-requires c κs = ?
+put-nth-step-requires c κs = omega (arith, c .before .before .loop-test .taken, c .before .before .before .before .before .before .pre .fits, c .before .before .before .loop .inv .size)
 
--- src/blocks.rt:36:9
 add-i : tie.Need-add-i Inv-loop μ-loop
-add-i c = ?
+add-i c = omega (arith, c .before .before .before .before .before .loop-test .taken)
 
--- src/blocks.rt:34:5
 loop-less : tie.Need-loop-less Inv-loop μ-loop
-loop-less c = ?
+loop-less c = omega (arith, c .before .before .before .before .before .loop-test .taken)
 
--- src/blocks.rt:34:5
 loop-again : tie.Need-loop-again Inv-loop μ-loop
-loop-again c = ?
+loop-again c = one-copied (c .before .before .before .before .before .before .loop .inv) (c .before .before .before .before .before .loop-test .taken) (c .before .before .before .nth-step .ensures) (c .before .before .put-nth-step .ensures)
 
--- src/blocks.rt:29:1
 same-length : tie.Need-same-length Inv-loop μ-loop
-same-length c = ?
+same-length c = c .before .loop .inv .size
 
--- src/blocks.rt:29:1
 returns : tie.Need-returns Inv-loop μ-loop
-returns c = ?
+returns c = all-copied (c .before .loop .inv) (c .loop-test .left)
 
 pub copy-steps-spec : {M : Type 1} → statement M
 copy-steps-spec =

@@ -1,41 +1,35 @@
+-- `builds::build::skips` meets its contract: list by list.
+use mathlib.Core.Path.{sym, _∙_}
+use Rattle.builds.proofs.Tests.{first-skips, last-skips, i-skips-not, i-skips}
+-- `builds::build::skips` meets its contract.
+-- Assumes nothing.
 use borrow.Author.Needs.{needs}
 use Rattle.builds.proofs.build.skips.Statement.{statement}
 use Rattle.builds.proofs.build.skips.Tie as tie
-use Rattle.builds.proofs.build.skips.Reads as reads
-use Rattle.builds.proofs.build.skips.Lts as lts
-use Rattle.builds.proofs.blocks.cell_of.Reads as cell-of-reads
 
--- src/build.rt:67:25
 enum-told : tie.Need-enum-told
 enum-told c = search needs
 
--- src/build.rt:68:21
 enum-told-2 : tie.Need-enum-told-2
 enum-told-2 c = search needs
 
--- src/build.rt:68:31
 cell-of-requires : tie.Need-cell-of-requires
 cell-of-requires c κs = search needs
 
--- src/build.rt:69:24
 enum-told-3 : tie.Need-enum-told-3
 enum-told-3 c = search needs
 
--- src/build.rt:63:1
 returns : tie.Need-returns
-returns c = search needs
+returns c = first-skips _ _ (c .enum-told .given .1)
 
--- src/build.rt:63:1
 returns-2 : tie.Need-returns-2
-returns-2 c = ?
+returns-2 c = i-skips _ _ (c .before .before .enum-told2 .given .1) (c .before .if1 .taken) (c .cell-of .ensures)
 
--- src/build.rt:63:1
 returns-3 : tie.Need-returns-3
-returns-3 c = search needs
+returns-3 c = i-skips-not _ _ (c .before .enum-told2 .given .1) (c .if1 .left)
 
--- src/build.rt:63:1
 returns-4 : tie.Need-returns-4
-returns-4 c = search needs
+returns-4 c = last-skips _ _ (c .enum-told3 .given .1)
 
 pub skips-spec : {M : Type 1} → statement M
 skips-spec =

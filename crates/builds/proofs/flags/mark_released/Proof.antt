@@ -1,38 +1,35 @@
+-- `builds::flags::mark_released` meets its contract: the expressions before e are done.
+-- Assumes nothing.
+use borrow.Author.Needs.{needs}
+use Prim.Native.Nat.{_-_}
+use native.Mathlib.Omega.{arith}
+use Rattle.builds.proofs.Turns.{Freed, none-freed, one-freed, all-freed}
 use Rattle.builds.proofs.flags.mark_released.Statement.{statement}
 use Rattle.builds.proofs.flags.mark_released.Tie as tie
-use Rattle.builds.proofs.flags.mark_released.Reads as reads
-use Rattle.builds.proofs.flags.mark_released.Lts as lts
-use Rattle.builds.proofs.flags.release_one.Reads as release-one-reads
 
 abbrev Inv-loop : tie.InvT-loop
-Inv-loop expressions marks₀ m e₀ marks e = ?
+Inv-loop expressions marks₀ m e₀ marks e = Freed expressions marks₀ marks m e
 
 abbrev μ-loop : tie.MeasureT-loop
-μ-loop expressions marks₀ m e₀ marks e = ?
+μ-loop expressions marks₀ m e₀ marks e = m - e
 
--- src/flags.rt:73:5
 loop-holds : tie.Need-loop-holds Inv-loop μ-loop
-loop-holds c = ?
+loop-holds c = none-freed _ _ _
 
--- src/flags.rt:74:9
 release-one-requires : tie.Need-release-one-requires Inv-loop μ-loop
-release-one-requires c κs = ?
+release-one-requires c κs = omega (arith, c .before .loop-test .taken, c .before .before .before .pre)
 
--- src/flags.rt:75:9
 add-e : tie.Need-add-e Inv-loop μ-loop
-add-e c = ?
+add-e c = omega (arith, c .before .before .loop-test .taken, c .before .before .before .before .pre)
 
--- src/flags.rt:73:5
 loop-less : tie.Need-loop-less Inv-loop μ-loop
-loop-less c = ?
+loop-less c = omega (arith, c .before .before .loop-test .taken)
 
--- src/flags.rt:73:5
 loop-again : tie.Need-loop-again Inv-loop μ-loop
-loop-again c = ?
+loop-again c = one-freed (c .before .before .before .loop .inv) (c .before .before .loop-test .taken) (c .release-one .ensures)
 
--- src/flags.rt:64:1
 returns : tie.Need-returns Inv-loop μ-loop
-returns c = ?
+returns c = all-freed (c .before .loop .inv) (c .loop-test .left)
 
 pub mark-released-spec : {M : Type 1} → statement M
 mark-released-spec =
