@@ -2,3 +2,4 @@
 pub mod Tests
 pub mod Turns
 pub mod Built
+pub mod Results

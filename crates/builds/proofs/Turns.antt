@@ -9,11 +9,11 @@ use native.Mathlib.Numerals.{add-one}
 use native.Mathlib.Omega.{arith}
 use lib.ListN.{length, getD, set, drop}
 use Rattle.kinds.specs.Write.{write, write-none, write-length, write-then}
-use Rattle.kinds.specs.Records.{same-drop}
-use Rattle.kinds.specs.Steps.{stepSize, stepAt, stepBytes, stepsOf, stepsBytes, step-same, steps-none, steps-more, steps-length, steps-bytes-none, steps-bytes-one, steps-bytes-append, steps-bytes-length}
+use Rattle.kinds.specs.Steps.{stepSize, stepAt, stepBytes, stepsBytes, steps-none, steps-length, steps-bytes-none, steps-bytes-one, steps-bytes-append, steps-bytes-length}
 use Rattle.kinds.specs.declared.step.Step.{Step}
 use Rattle.builds.specs.Raw.{cellIn, stepsIn, startOf, recordsFrom}
 use Rattle.builds.specs.Numbered.{standTo, takenAt, takenTo, listTo, CopyStepsAsks}
+use Rattle.builds.specs.Starts.{records-more, start-le}
 use Rattle.builds.specs.Lists.{list-length}
 use Rattle.builds.specs.Marking.{releaseOne, release}
 
@@ -51,14 +51,10 @@ pub all-freed : {x s₀ s : List ℕ} {m e : ℕ} → Freed x s₀ s m e → m �
 all-freed {x} {s₀} {s} {m} {e} p h = let q : e ≡ m = omega (arith, p .below) in p .is ∙ ap (λ j. release x j s₀) q
 
 -- ── steps counted ────────────────────────────────────────────────────────────
-start-more : (t : List ℕ) (k n : ℕ) → k ≤ n → startOf t k ≤ startOf t n
-unfolding startOf
-start-more t k n h = le-ind (λ n. startOf t k ≤ startOf t n) (omega arith) (λ n g e. omega arith) n h
-
 -- one more block
-start-next : (t : List ℕ) (k n : ℕ) → k < n → startOf t k + stepsIn (getD t k 0) ≤ startOf t n
+start-more : (t : List ℕ) (k n : ℕ) → k < n → startOf t k + stepsIn (getD t k 0) ≤ startOf t n
 unfolding startOf
-start-next t k n h = start-more t (suc k) n h
+start-more t k n h = start-le t (suc k) n h
 
 module _ (skips : ℕ → Bool) (t : List ℕ) where
   taken-some : (k : ℕ) → takenAt skips t k ≤ stepsIn (getD t k 0)
@@ -101,15 +97,6 @@ module _ (skips : ℕ → Bool) (t : List ℕ) where
   all-counted {n} {k} p h = let q : k ≡ n = omega (arith, p .below) in p .is ∙ ap (takenTo skips t) q
 
 -- ── steps copied ─────────────────────────────────────────────────────────────
-pub step-drop : (l : List ℕ) (j i : ℕ) → stepAt (drop j l) i ≡ stepAt l (j + i)
-step-drop l j i = step-same (drop j l) i l (j + i) (same-drop stepSize l j i)
-
--- one record more
-pub records-more : (l : List ℕ) (at i : ℕ) → recordsFrom l at (i + 1) ≡ recordsFrom l at i ++ (stepAt l (stepSize * (at + i)) ∷ [])
-records-more l at i =
-    let e : stepSize * at + stepSize * i ≡ stepSize * (at + i) = omega arith in
-    rw (add-one i, steps-more (drop (stepSize * at) l) i, step-drop l (stepSize * at) (stepSize * i), e)
-
 pub record Copied (l o₀ o : List ℕ) (from to count i : ℕ) : Type 0 where
   pub below : i ≤ count
   pub size : length o ≡ length o₀
@@ -126,7 +113,7 @@ one-copied {l} {o₀} {o} {o′} {from} {to} {count} {i} {s} p h e g =
     let r = recordsFrom l from i in
     let n : stepSize * to + length (stepsBytes r) ≡ stepSize * (to + i) = omega (arith, steps-bytes-length r, steps-length (drop (stepSize * from) l) i) in
     let c : stepsBytes (recordsFrom l from (i + 1)) ≡ stepsBytes r ++ stepBytes s
-    = rw (records-more l from i, ← e, steps-bytes-append r (s ∷ []), steps-bytes-one s) in
+    = rw (add-one i, records-more l from i, ← e, steps-bytes-append r (s ∷ []), steps-bytes-one s) in
     record {
       below = omega arith;
       size = ap length g ∙ write-length o (stepSize * (to + i)) (stepBytes s) ∙ p .size;
@@ -154,12 +141,12 @@ module _ {skips : ℕ → Bool} {t l o₀ o : List ℕ} {n k from to : ℕ} (p :
   pub block-fits : stepSize * startOf t n ≤ length l → stepSize * takenTo skips t n ≤ length o₀ → CopyStepsAsks (length l) (length o) from to r
   block-fits a b =
       record {
-        there = omega (arith, p .source, e, taken-some skips t k, start-next t k n h);
+        there = omega (arith, p .source, e, taken-some skips t k, start-more t k n h);
         fits = omega (arith, p .place, e, p .size, taken-next skips t k n h);
       }
 
   pub source-small : {v : ℕ} → v ≡ stepsIn (getD t k 0) → from + v ≤ startOf t n
-  source-small g = omega (arith, p .source, start-next t k n h)
+  source-small g = omega (arith, p .source, start-more t k n h)
 
   pub place-small : to + r ≤ startOf t n
   place-small = omega (arith, p .place, e, taken-next skips t k n h, taken-few skips t n)

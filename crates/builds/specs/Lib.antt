@@ -1,6 +1,7 @@
 -- The definitions that the contracts cite, and the laws on them that other crates use.
 pub mod Raw
 pub mod RawOf
+pub mod Starts
 pub mod Marking
 pub mod Flags
 pub mod Numbered

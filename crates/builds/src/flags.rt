@@ -62,11 +62,7 @@ fn release_one(expressions: &[u64; EXPRESSION_LIMIT], marks: &mut [u8; JOB_LIMIT
 }
 
 // After a build each of the first m expressions with neither keep nor idQ is marked both ways.
-pub fn mark_released(
-    expressions: &[u64; EXPRESSION_LIMIT],
-    marks: &mut [u8; JOB_LIMIT],
-    m: usize,
-)
+pub fn mark_released(expressions: &[u64; EXPRESSION_LIMIT], marks: &mut [u8; JOB_LIMIT], m: usize)
     requires { ⌜ m ≤ expressionLimit ⌝ }
     ensures { λ _. ⌜ now (marks .exit) ≡ release (now (expressions .entry)) m (now (marks .entry)) ⌝ }
 {
