@@ -1,7 +1,7 @@
 -- Tests on numbers and words, by the answers of the calls that make them. No word of the code.
 -- Assumes nothing.
-use Prim.Native.Nat.{ℕ, _*_, _+_, _%_, _<_, _≤_}
-use mathlib.Core.Path.{_≡_, refl, sym, _∙_}
+use Prim.Native.Nat.{ℕ, _*_, _+_, _<_, _≤_}
+use mathlib.Core.Path.{_≡_, sym, ap}
 use mathlib.Core.Bool.{Bool, true, false, not, _&&_, _||_}
 use mathlib.Core.List.{List}
 use lib.ListN.{getD, set}
@@ -9,9 +9,10 @@ use lib.Dec.{ltb, eqb}
 use borrow.Author.Tests.{lt-ltb, le-ltb}
 use Rattle.frames.specs.Tables.{expressionIn}
 use Rattle.frames.specs.declared.rest.Expression.{Expression}
-use Rattle.builds.specs.Raw.{cellIn, stepsIn, bitIn, flaggedBy, releasedBy}
-use Rattle.builds.specs.Numbered.{inTable, skipsIn, skipsAt, takenAt}
+use Rattle.builds.specs.Raw.{bitIn, flaggedBy, releasedBy}
+use Rattle.builds.specs.Numbered.{blockIn, inTable, skipsIn, skipsAt, takenAt}
 use Rattle.builds.specs.Marking.{releaseOne}
+use Rattle.builds.specs.declared.blocks.Block.{Block}
 use Rattle.builds.specs.declared.build.Which.{Which}
 use Rattle.builds.specs.declared.build.Which.the-variants as which
 
@@ -71,29 +72,29 @@ module _ (x : List ℕ) (m : ℕ) (s : List ℕ) (e : ℕ) where
     both-in g a = rw (lt-ltb e m h, ← k, g, lt-ltb 0 (getD s (2 * e) 0) a)
 
 -- ── a skip ───────────────────────────────────────────────────────────────────
-module _ {w : Which} (inside : Bool) (word : ℕ) where
-  pub first-skips : w ≡ which.First → false ≡ skipsIn w inside word
+module _ {w : Which} (inside : Bool) (row : ℕ) where
+  pub first-skips : w ≡ which.First → false ≡ skipsIn w inside row
   unfolding skipsIn
   first-skips h = rw h
 
-  pub last-skips : w ≡ which.Last → inside ≡ skipsIn w inside word
+  pub last-skips : w ≡ which.Last → inside ≡ skipsIn w inside row
   unfolding skipsIn
   last-skips h = rw h
 
-  pub i-skips-not : w ≡ which.I → inside ≡ false → inside ≡ skipsIn w inside word
+  pub i-skips-not : w ≡ which.I → inside ≡ false → inside ≡ skipsIn w inside row
   unfolding skipsIn
   i-skips-not h g = rw (h, g)
 
-  pub i-skips : {c : ℕ} → w ≡ which.I → inside ≡ true → c ≡ cellIn word → eqb (c % 2) 0 ≡ skipsIn w inside word
+  pub i-skips : w ≡ which.I → inside ≡ true → eqb row 0 ≡ skipsIn w inside row
   unfolding skipsIn
-  i-skips h g k = rw (h, g, k)
+  i-skips h g = rw (h, g)
 
 -- ── what a list takes of a block ─────────────────────────────────────────────
-module _ (t x s : List ℕ) (m : ℕ) (w : Which) (k : ℕ) {inside : Bool} (h : inside ≡ inTable x m s k) where
-  pub skipped : skipsIn w inside (getD t k 0) ≡ true → 0 ≡ takenAt (skipsAt t x m s w) t k
+module _ (t x s : List ℕ) (m : ℕ) (w : Which) (k : ℕ) {inside : Bool} (h : inside ≡ inTable x m s k) {b : Block} (q : b ≡ blockIn (getD t k 0)) where
+  pub skipped : skipsIn w inside (b .row) ≡ true → 0 ≡ takenAt (skipsAt t x m s w) t k
   unfolding takenAt
-  skipped g = rw (← h, g)
+  skipped g = rw (← h, ap (λ z. z .row) (sym q), g)
 
-  pub not-skipped : skipsIn w inside (getD t k 0) ≡ false → stepsIn (getD t k 0) ≡ takenAt (skipsAt t x m s w) t k
+  pub not-skipped : skipsIn w inside (b .row) ≡ false → b .steps ≡ takenAt (skipsAt t x m s w) t k
   unfolding takenAt
-  not-skipped g = rw (← h, g)
+  not-skipped g = rw (← h, ap (λ z. z .row) (sym q), g) (ap (λ z. z .steps) q)

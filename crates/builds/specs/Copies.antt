@@ -4,7 +4,7 @@ use Prim.Native.Nat.{ℕ, zero, suc, _+_, _*_, _-_, _/_, _%_, _<_, _≤_}
 use mathlib.Core.Path.{_≡_, refl, sym, _∙_, ap}
 use mathlib.Core.Bool.{Bool, true, false, _&&_, _||_, cond}
 use mathlib.Core.Option.{Option, none, some}
-use mathlib.Core.List.{List, [], _∷_, _++_, append-assoc, append-nil}
+use mathlib.Core.List.{List, [], _∷_, _++_}
 use mathlib.Core.Logic.{inl}
 use native.Mathlib.Omega.{arith}
 use native.Mathlib.Nat.{add-zero, add-suc, suc-add}
@@ -23,7 +23,7 @@ use Rattle.frames.specs.Packing.{first-same}
 use Rattle.starkinfo_codegen.specs.Sources.{copyStep}
 use Rattle.starkinfo_codegen.specs.Ordering.{cellOf}
 use Rattle.builds.specs.Raw.{RawBlock, cellIn, stepsIn, startOf, recordsFrom, rawBlockAt, rawBlocks, lastDestination, copied, isBlock, copyInto, standing}
-use Rattle.builds.specs.Starts.{step-drop, records-more, records-same, start-next, start-le}
+use Rattle.builds.specs.Starts.{step-drop, records-more, records-same, start-next, start-le, from, first-from, from-same}
 use Rattle.builds.specs.Lists.{cell-block, standing-snoc}
 use Rattle.builds.specs.Results.{orElse, findBlock, inserted}
 use Rattle.builds.specs.declared.result.Found.{Found}
@@ -145,22 +145,6 @@ find-here t (suc n) c k q = go (findBlock t n c) (eqb (cellIn (getD t n 0)) c) r
     go found.Nothing false p u q ih = absurd (let z : _≡_ {A = ℕ} 0 1 = cc in omega arith)
 
 -- ── blocks one by one ────────────────────────────────────────────────────────
--- the m of what g gives from a on
-abbrev from : (ℕ → RawBlock) → ℕ → ℕ → List RawBlock
-from g a zero = []
-from g a (suc m) = g a ∷ from g (suc a) m
-
-first-from : (g : ℕ → RawBlock) (a m : ℕ) → first g (a + m) ≡ first g a ++ from g a m
-unfolding first
-first-from g a zero = rw add-zero (sym (append-nil (first g a)))
-first-from g a (suc m) =
-    let e : a + suc m ≡ suc a + m = omega arith in
-    rw e (first-from g (suc a) m ∙ append-assoc (first g a) (g a ∷ []) (from g (suc a) m))
-
-from-same : (g h : ℕ → RawBlock) (b a m : ℕ) → a + m ≤ b → ((j : ℕ) → a ≤ j → j < b → h j ≡ g j) → from h a m ≡ from g a m
-from-same g h b a zero q e = refl
-from-same g h b a (suc m) q e = rw (e a (omega arith) (omega arith), from-same g h b (suc a) m (omega arith) (λ j u v. e j (omega arith) v))
-
 copy-none : (e r : ℕ) (d : Reference) (bs : List RawBlock) → standing e r bs ≡ false → copyInto e r d bs ≡ none
 copy-none e r d [] h = refl
 copy-none e r d (b ∷ bs) h = go (isBlock e r b) h (copy-none e r d bs)

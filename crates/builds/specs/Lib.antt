@@ -8,3 +8,4 @@ pub mod Numbered
 pub mod Lists
 pub mod Results
 pub mod Copies
+pub mod Held

@@ -1,6 +1,6 @@
 -- A build by block number, as it is made from tables: which cells stand, which blocks are skipped, and the steps that a list takes.
 -- Assumes nothing: these are definitions.
-use Prim.Native.Nat.{ℕ, zero, suc, _+_, _*_, _%_, _<_, _≤_}
+use Prim.Native.Nat.{ℕ, zero, suc, _+_, _*_, _/_, _%_, _<_, _≤_}
 use mathlib.Core.Bool.{Bool, false, _&&_, cond}
 use mathlib.Core.List.{List, [], _++_}
 use lib.ListN.{getD, set}
@@ -8,8 +8,13 @@ use lib.Dec.{eqb, ltb}
 use Rattle.kinds.specs.Steps.{stepSize}
 use Rattle.kinds.specs.declared.step.Step.{Step}
 use Rattle.builds.specs.Raw.{cellIn, stepsIn, startOf, recordsFrom, flaggedIn}
+use Rattle.builds.specs.declared.blocks.Block.{Block}
 use Rattle.builds.specs.declared.build.Which.{Which}
 use Rattle.builds.specs.declared.build.Which.the-variants as which
+
+-- what a word says of a block
+abbrev pub blockIn : ℕ → Block
+blockIn word = record { expression = cellIn word / 2; row = cellIn word % 2; steps = stepsIn word }
 
 -- ── which cells stand ────────────────────────────────────────────────────────
 -- the cells of the first n blocks of table t, noted in s
@@ -25,15 +30,15 @@ stands s c = ltb 0 (getD s c 0)
 unfoldable pub inTable : List ℕ → ℕ → List ℕ → ℕ → Bool
 inTable x m s e = flaggedIn x m e && (stands s (2 * e) && stands s (2 * e + 1))
 
--- a block with such a word, where its number is in E or not
+-- a block at such a row, where its number is in E or not
 unfoldable pub skipsIn : Which → Bool → ℕ → Bool
-skipsIn which.First inside word = false
-skipsIn which.I inside word = inside && eqb (cellIn word % 2) 0
-skipsIn which.Last inside word = inside
+skipsIn which.First inside row = false
+skipsIn which.I inside row = inside && eqb row 0
+skipsIn which.Last inside row = inside
 
 -- BLOCK NUMBER k
 abbrev pub skipsAt : List ℕ → List ℕ → ℕ → List ℕ → Which → ℕ → Bool
-skipsAt t x m s w k = skipsIn w (inTable x m s k) (getD t k 0)
+skipsAt t x m s w k = skipsIn w (inTable x m s k) (blockIn (getD t k 0) .row)
 
 -- ── what a list takes ────────────────────────────────────────────────────────
 -- how many steps of block number k

@@ -2,13 +2,14 @@
 use kinds::step::nth_step;
 use kinds::step::put_nth_step;
 use starkinfo_codegen::order::JOB_LIMIT;
+use starkinfo_codegen::out::ROWS;
 ghost use mathlib.Core.Path.{_≡_};
 ghost use Prim.Native.Nat.{_*_};
 ghost use lib.ListN.{length};
 ghost use Rattle.kinds.specs.Write.{write};
 ghost use Rattle.kinds.specs.Steps.{stepSize, stepsBytes};
 ghost use Rattle.builds.specs.Raw.{cellIn, stepsIn, recordsFrom};
-ghost use Rattle.builds.specs.Numbered.{CopyStepsAsks};
+ghost use Rattle.builds.specs.Numbered.{blockIn, CopyStepsAsks};
 
 // A block's cell is below this.
 pub const CELLS: u64 = JOB_LIMIT as u64;
@@ -17,6 +18,24 @@ pub fn cell_of(word: u64) -> usize
     ensures { λ r. ⌜ r ≡ cellIn word ⌝ }
 {
     (word % CELLS) as usize
+}
+
+// What a word says of a block.
+pub struct Block {
+    pub expression: usize,
+    pub row: usize,
+    pub steps: usize,
+}
+
+pub fn block_of(word: u64) -> Block
+    ensures { λ r. ⌜ r ≡ blockIn word ⌝ }
+{
+    let cell = cell_of(word);
+    Block {
+        expression: cell / ROWS,
+        row: cell % ROWS,
+        steps: steps_of(word),
+    }
 }
 
 pub fn steps_of(word: u64) -> usize

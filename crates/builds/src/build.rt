@@ -1,4 +1,5 @@
 // The three lists of a build (`build_code`): every block in order, and twice less those that are skipped.
+use crate::blocks::block_of;
 use crate::blocks::cell_of;
 use crate::blocks::copy_steps;
 use crate::blocks::steps_of;
@@ -61,12 +62,12 @@ fn in_e(
 }
 
 // The i list skips only plain blocks.
-fn skips(which: Which, inside: bool, word: u64) -> bool
-    ensures { λ r. ⌜ r ≡ skipsIn which inside word ⌝ }
+fn skips(which: Which, inside: bool, row: usize) -> bool
+    ensures { λ r. ⌜ r ≡ skipsIn which inside row ⌝ }
 {
     match which {
         Which::First => false,
-        Which::I => inside && cell_of(word) % ROWS == 0,
+        Which::I => inside && row == 0,
         Which::Last => inside,
     }
 }
@@ -83,11 +84,11 @@ fn taken(
     requires { ⌜ TakenAsks m k ⌝ }
     ensures { λ r. ⌜ r ≡ takenAt (skipsAt (now (blocks .entry)) (now (expressions .entry)) m (now (standing .entry)) which) (now (blocks .entry)) k ⌝ }
 {
-    let word = blocks[k];
-    if skips(which, in_e(expressions, standing, m, k), word) {
+    let block = block_of(blocks[k]);
+    if skips(which, in_e(expressions, standing, m, k), block.row) {
         return 0;
     }
-    steps_of(word)
+    block.steps
 }
 
 fn count_taken(

@@ -1,8 +1,6 @@
 -- `builds::build::skips` meets its contract: list by list.
-use mathlib.Core.Path.{sym, _∙_}
-use Rattle.builds.proofs.Tests.{first-skips, last-skips, i-skips-not, i-skips}
--- `builds::build::skips` meets its contract.
 -- Assumes nothing.
+use Rattle.builds.proofs.Tests.{first-skips, last-skips, i-skips-not, i-skips}
 use borrow.Author.Needs.{needs}
 use Rattle.builds.proofs.build.skips.Statement.{statement}
 use Rattle.builds.proofs.build.skips.Tie as tie
@@ -13,9 +11,6 @@ enum-told c = search needs
 enum-told-2 : tie.Need-enum-told-2
 enum-told-2 c = search needs
 
-cell-of-requires : tie.Need-cell-of-requires
-cell-of-requires c κs = search needs
-
 enum-told-3 : tie.Need-enum-told-3
 enum-told-3 c = search needs
 
@@ -23,7 +18,7 @@ returns : tie.Need-returns
 returns c = first-skips _ _ (c .enum-told .given .1)
 
 returns-2 : tie.Need-returns-2
-returns-2 c = i-skips _ _ (c .before .before .enum-told2 .given .1) (c .before .if1 .taken) (c .cell-of .ensures)
+returns-2 c = i-skips _ _ (c .before .enum-told2 .given .1) (c .if1 .taken)
 
 returns-3 : tie.Need-returns-3
 returns-3 c = i-skips-not _ _ (c .before .enum-told2 .given .1) (c .if1 .left)
@@ -33,13 +28,4 @@ returns-4 c = last-skips _ _ (c .enum-told3 .given .1)
 
 pub skips-spec : {M : Type 1} → statement M
 skips-spec =
-    tie.close
-    (tie.spec
-    enum-told
-    enum-told-2
-    cell-of-requires
-    enum-told-3
-    returns
-    returns-2
-    returns-3
-    returns-4)
+    tie.close (tie.spec enum-told enum-told-2 enum-told-3 returns returns-2 returns-3 returns-4)
