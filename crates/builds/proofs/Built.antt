@@ -1,12 +1,12 @@
 -- From the lists by number, with the cells noted, to the lists of a build. No word of the code.
 -- Assumes nothing.
-use Prim.Native.Nat.{ℕ, _*_, _≤_}
+use Prim.Native.Nat.{ℕ, _≤_}
 use mathlib.Core.Path.{_≡_, sym, _∙_, ap}
 use mathlib.Core.List.{List}
 use native.Mathlib.Omega.{arith}
 use lib.ListN.{length}
 use Rattle.kinds.specs.Write.{write}
-use Rattle.kinds.specs.Steps.{stepSize, stepsBytes}
+use Rattle.kinds.specs.Steps.{stepsBytes}
 use Rattle.kinds.specs.declared.step.Step.{Step}
 use Rattle.builds.specs.Numbered.{standTo, skipsAt, takenTo, listTo, CopyTakenAsks}
 use Rattle.builds.specs.Lists.{listIn, CopyAsks, noCells, list-is, size-is}

@@ -1,17 +1,15 @@
 -- The turns of the loops that look for a block, count its place and move steps up; and a copy put in. No word of the code.
 -- Assumes nothing.
-use Prim.Native.Nat.{ℕ, zero, suc, _+_, _*_, _-_, _≤_, _<_}
+use Prim.Native.Nat.{ℕ, suc, _+_, _*_, _-_, _≤_, _<_}
 use mathlib.Core.Path.{_≡_, refl, sym, _∙_, ap}
-use mathlib.Core.Bool.{Bool, cond}
 use mathlib.Core.List.{List, [], _∷_, _++_}
 use mathlib.Core.Logic.{inl}
 use native.Mathlib.Decide.{le-ind}
-use native.Mathlib.Nat.{add-zero, add-suc, suc-add}
+use native.Mathlib.Nat.{add-zero}
 use native.Mathlib.Numerals.{add-one}
 use native.Mathlib.Omega.{arith}
 use lib.ListN.{length, getD, set, drop}
 use lib.Seq.{set-comm, drop-drop}
-use lib.Dec.{eqb}
 use borrow.Author.Tests.{eq-eqb, ne-eqb}
 use Rattle.kinds.specs.Write.{write, write-none, write-length, write-append}
 use Rattle.kinds.specs.Steps.{stepSize, stepAt, stepBytes, stepsOf, stepsBytes, step-sized, step-kept, steps-none, steps-more, steps-split, steps-bytes-none, steps-bytes-one, steps-bytes-append}
@@ -20,8 +18,7 @@ use Rattle.kinds.specs.declared.step.Step.{Step}
 use Rattle.starkinfo_codegen.specs.Sources.{copyStep}
 use Rattle.builds.specs.Raw.{cellIn, stepsIn, startOf, recordsFrom}
 use Rattle.builds.specs.Starts.{step-drop, start-next, start-le}
-use Rattle.builds.specs.Results.{orElse, findBlock, inserted, MoveAsks, InsertAsks}
-use Rattle.builds.specs.declared.result.Found.{Found}
+use Rattle.builds.specs.Results.{findBlock, inserted}
 use Rattle.builds.specs.declared.result.Found.the-variants as found
 
 -- ── the block of a cell ──────────────────────────────────────────────────────

@@ -1,15 +1,15 @@
 -- The flags of a pool's expressions are those of its table, and the marks after a build those of `afterBuild`.
 -- Assumes nothing.
 use Prim.Native.Nat.{ℕ, zero, suc, _%_, _/_, _<_, _≤_}
-use mathlib.Core.Path.{_≡_, refl, sym, _∙_, ap, fun-ext}
-use mathlib.Core.Bool.{Bool, true, false, not, _&&_, _||_}
+use mathlib.Core.Path.{_≡_, refl, _∙_, ap, fun-ext}
+use mathlib.Core.Bool.{Bool, true, false}
 use mathlib.Core.Option.{Option, none, some}
 use mathlib.Core.List.{List, [], _∷_}
 use native.Mathlib.Omega.{arith}
 use native.Mathlib.Nat.{not-suc-le-zero, le-of-suc-le-suc}
 use lib.ListN.{length}
 use lib.Dec.{ltb}
-use borrow.Author.Tests.{lt-ltb, le-ltb, ltb-true, ltb-false}
+use borrow.Author.Tests.{ltb-true, ltb-false}
 use Rattle.meaning.specs.Trees.{Forest, nth}
 use Rattle.meaning.specs.Trees as meaning
 use Rattle.meaning.specs.Generation.{State}
@@ -20,9 +20,9 @@ use Rattle.pool.specs.Pool.{Pool}
 use Rattle.pool.specs.Trees.{expressionOf, forestFrom, forest}
 use Rattle.pool.specs.Tabled.{tabled}
 use Rattle.pool.specs.Laws.Tabled.{first-length, first-nth}
-use Rattle.starkinfo_codegen.specs.Emitting.{Rest, tablesOf, poolOf}
+use Rattle.starkinfo_codegen.specs.Emitting.{Rest, poolOf}
 use Rattle.starkinfo_codegen.specs.Ordering.{marksOf}
-use Rattle.builds.specs.Raw.{bitIn, flaggedBy, releasedBy, flaggedIn, releasedIn}
+use Rattle.builds.specs.Raw.{flaggedBy, releasedBy, flaggedIn, releasedIn}
 use Rattle.builds.specs.Marking.{release, release-marks}
 
 abbrev grown : Pool → Option Expression → Option meaning.Expression

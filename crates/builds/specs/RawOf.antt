@@ -1,20 +1,19 @@
 -- Blocks of `meaning` as raw blocks, their steps as records: each definition of raw blocks gives the records of what `meaning`'s gives.
 -- Assumes nothing.
-use Prim.Native.Nat.{ℕ, zero, suc, _<_}
-use mathlib.Core.Path.{_≡_, refl, sym, _∙_, ap, fun-ext}
+use Prim.Native.Nat.{ℕ, suc}
+use mathlib.Core.Path.{_≡_, refl, sym, ap}
 use mathlib.Core.Bool.{Bool, true, false, _&&_, cond}
-use mathlib.Core.Option.{Option, none, some, Option·none-ne-some, Option·some-injective}
+use mathlib.Core.Option.{Option, none, some}
 use mathlib.Core.List.{List, [], _∷_, _++_}
-use lib.Dec.{ltb}
 use Rattle.meaning.specs.Trees.{Forest, nth}
 use Rattle.meaning.specs.Steps as typed
 use Rattle.meaning.specs.Generation as meaning
 use Rattle.meaning.specs.Generation.{Block, State, onto, before}
 use Rattle.meaning.specs.Building as building
-use Rattle.meaning.specs.Building.{Segment, segment, flagged, released}
+use Rattle.meaning.specs.Building.{Segment, segment, flagged}
 use Rattle.kinds.specs.declared.reference.Reference.{Reference}
 use Rattle.kinds.specs.declared.step.Step.{Step}
-use Rattle.starkinfo_codegen.specs.Encoding.{refOf, stepRecord, records, records-append}
+use Rattle.starkinfo_codegen.specs.Encoding.{refOf, records, records-append}
 use Rattle.builds.specs.Raw.{RawBlock, RawSegment, lastDestination, copied, isBlock, copyInto, standing, inE, every, linear, plain, rawSegment}
 
 abbrev pub rawBlock : Block → RawBlock
@@ -23,6 +22,10 @@ rawBlock b = record { expression = b .expression; row = b .row; records = record
 abbrev pub rawOf : List Block → List RawBlock
 rawOf [] = []
 rawOf (b ∷ bs) = rawBlock b ∷ rawOf bs
+
+pub raw-append : (bs cs : List Block) → rawOf (bs ++ cs) ≡ rawOf bs ++ rawOf cs
+raw-append [] cs = refl
+raw-append (b ∷ bs) cs = ap (λ (l : List RawBlock). rawBlock b ∷ l) (raw-append bs cs)
 
 abbrev pub rawAnswer : Option (List Block) → Option (List RawBlock)
 rawAnswer none = none

@@ -10,7 +10,6 @@ use lib.ListN.{getD, drop}
 use lib.Seq.{drop-drop}
 use Rattle.kinds.specs.Records.{same-drop}
 use Rattle.kinds.specs.Steps.{stepSize, stepAt, step-same, steps-none, steps-more, steps-split}
-use Rattle.kinds.specs.declared.step.Step.{Step}
 use Rattle.frames.specs.Tables.{first}
 use Rattle.builds.specs.Raw.{RawBlock, stepsIn, startOf, recordsFrom}
 

@@ -1,6 +1,5 @@
 -- `builds::flags::mark_released` meets its contract: the expressions before e are done.
 -- Assumes nothing.
-use borrow.Author.Needs.{needs}
 use Prim.Native.Nat.{_-_}
 use native.Mathlib.Omega.{arith}
 use Rattle.builds.proofs.Turns.{Freed, none-freed, one-freed, all-freed}
