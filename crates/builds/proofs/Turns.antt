@@ -1,8 +1,8 @@
 -- The turns of loops: what stands after a number of them, and after one more. No word of the code.
 -- Assumes nothing.
-use Prim.Native.Nat.{ℕ, zero, suc, _+_, _*_, _≤_, _<_}
+use Prim.Native.Nat.{ℕ, suc, _+_, _*_, _≤_, _<_}
 use mathlib.Core.Path.{_≡_, refl, sym, _∙_, ap}
-use mathlib.Core.Bool.{Bool, true, false, cond}
+use mathlib.Core.Bool.{Bool}
 use mathlib.Core.List.{List, [], _∷_, _++_}
 use native.Mathlib.Decide.{le-ind}
 use native.Mathlib.Numerals.{add-one}
@@ -14,7 +14,7 @@ use Rattle.kinds.specs.declared.step.Step.{Step}
 use Rattle.builds.specs.Raw.{cellIn, stepsIn, startOf, recordsFrom}
 use Rattle.builds.specs.Numbered.{standTo, takenAt, takenTo, listTo, CopyStepsAsks}
 use Rattle.builds.specs.Starts.{records-more, start-le}
-use Rattle.builds.specs.Lists.{list-length}
+use Rattle.builds.specs.Lists.{list-length, taken-some, taken-few}
 use Rattle.builds.specs.Marking.{releaseOne, release}
 
 -- ── cells noted ──────────────────────────────────────────────────────────────
@@ -57,19 +57,6 @@ unfolding startOf
 start-more t k n h = start-le t (suc k) n h
 
 module _ (skips : ℕ → Bool) (t : List ℕ) where
-  taken-some : (k : ℕ) → takenAt skips t k ≤ stepsIn (getD t k 0)
-  unfolding takenAt
-  taken-some k = go (skips k)
-    where
-      go : (v : Bool) → cond v 0 (stepsIn (getD t k 0)) ≤ stepsIn (getD t k 0)
-      go true = omega arith
-      go false = omega arith
-
-  taken-few : (k : ℕ) → takenTo skips t k ≤ startOf t k
-  unfolding takenTo startOf
-  taken-few zero = omega arith
-  taken-few (suc k) = omega (arith, taken-few k, taken-some k)
-
   taken-more : (k n : ℕ) → k ≤ n → takenTo skips t k ≤ takenTo skips t n
   unfolding takenTo
   taken-more k n h = le-ind (λ n. takenTo skips t k ≤ takenTo skips t n) (omega arith) (λ n g e. omega arith) n h
@@ -87,7 +74,7 @@ module _ (skips : ℕ → Bool) (t : List ℕ) where
   none-counted n = record { below = omega arith; is = refl }
 
   pub one-fits : {n k steps r : ℕ} → startOf t n ≤ 65535 → Counted n k steps → k < n → r ≡ takenAt skips t k → steps + r ≤ 65535
-  one-fits {n} {k} s p h e = omega (arith, taken-next k n h, taken-few n, p .is)
+  one-fits {n} {k} s p h e = omega (arith, taken-next k n h, taken-few skips t n, p .is)
 
   pub one-counted : {n k steps r : ℕ} → Counted n k steps → k < n → r ≡ takenAt skips t k → Counted n (k + 1) (steps + r)
   unfolding takenTo

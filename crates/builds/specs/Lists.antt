@@ -10,7 +10,7 @@ use lib.ListN.{length, getD, set, replicate, length-append, length-set, length-r
 use lib.Seq.{getD-set-same, getD-set-other}
 use lib.Dec.{eqb, ltb}
 use borrow.Author.Tests.{eq-eqb, eqb-true, eqb-false, ltb-true}
-use Rattle.kinds.specs.Steps.{stepSize, steps-none, steps-length}
+use Rattle.kinds.specs.Steps.{stepSize, stepsOf, steps-none, steps-length, steps-split}
 use Rattle.kinds.specs.declared.step.Step.{Step}
 use Rattle.frames.specs.Tables.{first}
 use Rattle.pool.specs.Laws.Tabled.{first-length}
@@ -166,3 +166,31 @@ list-length s t l (suc n) = length-append (listTo s t l n) _ ∙ rw (list-length
 -- how many steps it has does not hang on the list
 pub size-is : (t x l : List ℕ) (n m : ℕ) (w : Which) → m ≤ 512 → length (listIn t x l n m w) ≡ takenTo (skipsAt t x m (standTo t n noCells) w) t n
 size-is t x l n m w few = ap length (list-is t x l n m w few) ∙ list-length (skipsAt t x m (standTo t n noCells) w) t l n
+
+-- ── how many steps ───────────────────────────────────────────────────────────
+module _ (skips : ℕ → Bool) (t : List ℕ) where
+  pub taken-some : (k : ℕ) → takenAt skips t k ≤ stepsIn (getD t k 0)
+  unfolding takenAt
+  taken-some k = go (skips k)
+    where
+      go : (v : Bool) → cond v 0 (stepsIn (getD t k 0)) ≤ stepsIn (getD t k 0)
+      go true = omega arith
+      go false = omega arith
+
+  pub taken-few : (k : ℕ) → takenTo skips t k ≤ startOf t k
+  unfolding takenTo startOf
+  taken-few zero = omega arith
+  taken-few (suc k) = omega (arith, taken-few k, taken-some k)
+
+-- no list has more steps than the blocks
+pub list-few : (t x l : List ℕ) (n m : ℕ) (w : Which) → m ≤ 512 → length (listIn t x l n m w) ≤ startOf t n
+list-few t x l n m w few = rw (size-is t x l n m w few) (taken-few (skipsAt t x m (standTo t n noCells) w) t n)
+
+-- and the first list is the steps themselves
+pub every-is : (t l : List ℕ) (n : ℕ) → every (rawBlocks t l n) ≡ stepsOf l (startOf t n)
+unfolding listTo takenAt startOf
+every-is t l n = every-linear 0 (rawBlocks t l n) ∙ linear-is (λ k b. false) t l n ∙ go n
+  where
+    go : (n : ℕ) → listTo (λ k. false) t l n ≡ stepsOf l (startOf t n)
+    go zero = sym (steps-none l)
+    go (suc n) = rw (go n) (sym (steps-split l (startOf t n) (stepsIn (getD t n 0))))

@@ -18,6 +18,7 @@ ghost use Rattle.kinds.specs.Steps.{stepsBytes};
 ghost use Rattle.builds.specs.Numbered.{standTo, inTable, skipsIn, skipsAt, takenAt, takenTo, listTo, TakenAsks, BlocksAsk, CopyTakenAsks};
 ghost use Rattle.builds.specs.Lists.{listIn, CopyAsks};
 
+// Every block; without the plain blocks that are skipped; without any that is.
 pub enum Which {
     First,
     I,
@@ -61,7 +62,6 @@ fn in_e(
     false
 }
 
-// The i list skips only plain blocks.
 fn skips(which: Which, inside: bool, row: usize) -> bool
     ensures { λ r. ⌜ r ≡ skipsIn which inside row ⌝ }
 {
