@@ -6,14 +6,18 @@
 
 pub mod answer;
 pub mod case;
+pub mod differ;
 pub mod exhaustive;
 pub mod hex;
 pub mod kinds;
 pub mod literal;
 pub mod pool;
+pub mod printed;
+pub mod program;
 pub mod random;
 pub mod run;
 pub mod script;
+pub mod shrink;
 pub mod stored;
 pub mod surprises;
 pub mod vectors;
