@@ -98,8 +98,7 @@ fn compare(program: &dyn Program, script: &Script) -> Result<(Printed, Option<St
     let printed = Printed::of(script)?;
     let expected = printed.to_string();
     let reply = program.ask(script.frames().as_bytes())?;
-    let difference =
-        if reply.is(&expected) { None } else { Some(reply.difference(&expected)) };
+    let difference = if reply.is(&expected) { None } else { Some(reply.difference(&expected)) };
     Ok((printed, difference))
 }
 

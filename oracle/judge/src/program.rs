@@ -33,7 +33,8 @@ impl Reply {
             line += 1;
             let (wanted, given) = (wanted.next(), given.next());
             if wanted != given || wanted.is_none() {
-                let say = |text: Option<&str>| text.map_or("nothing".into(), |t| format!("{:?}", t));
+                let say =
+                    |text: Option<&str>| text.map_or("nothing".into(), |t| format!("{:?}", t));
                 return format!("line {}: expected {}, printed {}", line, say(wanted), say(given));
             }
         }

@@ -73,23 +73,13 @@ const SMALL: Size = Size {
     operations: 50,
     chained: 0,
 };
-const LARGE: Size = Size {
-    nodes: (40, 100),
-    expressions: (3, 12),
-    commands: (3, 10),
-    next_every: 60,
-    ..SMALL
-};
+const LARGE: Size =
+    Size { nodes: (40, 100), expressions: (3, 12), commands: (3, 10), next_every: 60, ..SMALL };
 
 /// Sizes of whole runs only.
 const TINY: Size = Size { nodes: (0, 3), expressions: (0, 2), commands: (0, 3), ..SMALL };
-const HUNDREDS: Size = Size {
-    nodes: (200, 900),
-    expressions: (3, 120),
-    commands: (3, 200),
-    next_every: 900,
-    ..SMALL
-};
+const HUNDREDS: Size =
+    Size { nodes: (200, 900), expressions: (3, 120), commands: (3, 200), next_every: 900, ..SMALL };
 /// Full in every respect.
 const WIDE: Size = Size {
     nodes: (MAX_NODES, MAX_NODES),

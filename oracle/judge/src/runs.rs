@@ -121,7 +121,7 @@ run bare
 02000000
 each 0 0 03{}0000
 output original
-0812000000011000000000
+08120000000110000000
 fe0000
 end
 
@@ -147,7 +147,7 @@ end
         assert_eq!(runs[1].difference(&Fixed("ff01\n")), Ok(None));
         let difference = runs[1].difference(&Fixed("ff02\n")).unwrap();
         assert_eq!(difference.unwrap(), r#"line 1: expected "ff01\n", printed "ff02\n""#);
-        assert_eq!(original_output(&runs[0].input).unwrap(), "081200000001100000 00\nfe0000\n".replace(' ', ""));
+        assert_eq!(original_output(&runs[0].input).unwrap(), "08120000000110000000\nfe0000\n");
         assert!(original_output(&runs[1].input).is_err());
     }
 

@@ -124,11 +124,7 @@ fn without_expression(script: &Script, gone: u16) -> Option<Script> {
 }
 
 /// The script of these parts without the nodes that no expression has.
-fn admitted(
-    nodes: &[Node],
-    expressions: &[Expression],
-    commands: Vec<Command>,
-) -> Option<Script> {
+fn admitted(nodes: &[Node], expressions: &[Expression], commands: Vec<Command>) -> Option<Script> {
     let owners = crate::pool::owners(nodes, expressions);
     let mut places = vec![0; nodes.len()];
     let mut pool = Pool::default();

@@ -27,11 +27,7 @@ impl Piece {
                 let number = |word: &str| {
                     word.parse().map_err(|_| format!("{:?} is no number up to 65535", word))
                 };
-                Piece::Each {
-                    from: number(from)?,
-                    to: number(to)?,
-                    template: template.to_string(),
-                }
+                Piece::Each { from: number(from)?, to: number(to)?, template: template.to_string() }
             }
             [digits] if is_hexadecimal(digits) => Piece::Line(digits.to_string()),
             _ => return Err(format!("digits, `each` or `text` come here, not {:?}", line)),
@@ -163,7 +159,10 @@ mod tests {
     fn rules_are_expanded() {
         assert_eq!(text(&[]).unwrap(), "");
         assert_eq!(text(&["00", "text 1", "text 2\\n\\n"]).unwrap(), "00\n12\n\n");
-        assert_eq!(text(&["each 9 11 a{}b{-9}{+1}"]).unwrap(), "a0009b0000000a\na000ab0001000b\na000bb0002000c\n");
+        assert_eq!(
+            text(&["each 9 11 a{}b{-9}{+1}"]).unwrap(),
+            "a0009b0000000a\na000ab0001000b\na000bb0002000c\n"
+        );
         assert_eq!(text(&["each 1 3 ff"]).unwrap(), "ff\nff\nff\n");
     }
 
@@ -172,7 +171,9 @@ mod tests {
         for line in ["", "0F", "0 1", "each 0 1", "each 0 65536 00", "each 0 1 {", "each 0 1 {x}"] {
             assert!(Piece::parse(line).is_err(), "{:?}", line);
         }
-        for line in ["each 0 1 {-1}", "each 0 1 xx", "text \\", "text \\x0", "text \\xgg", "text a b"] {
+        for line in
+            ["each 0 1 {-1}", "each 0 1 xx", "text \\", "text \\x0", "text \\xgg", "text a b"]
+        {
             assert!(Piece::parse(line).is_err(), "{:?}", line);
         }
     }
