@@ -562,7 +562,7 @@ fn chains() -> Vec<Chosen> {
         ),
         in_short(
             "neg-4095-plain-and-primed",
-            &negs(&[plain(0), request(0, 1, 1)]),
+            &negs(&[plain(0), primed(0)]),
             &[&step("00", 0)[..], &step("01", 4094), &ends("fe1ffc")].concat(),
         )
         .note("8,190 steps, the most that there can be"),

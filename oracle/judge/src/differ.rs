@@ -197,7 +197,7 @@ mod tests {
         let fused = |text: String| text.replacen("041200", "031200", 1);
         let (tally, difference) = differ(&StandIn(fused), 1, 1000).unwrap();
         let found = difference.expect("a difference");
-        assert_eq!(tally.runs, tally.equal + 1);
+        assert!(tally.equal < tally.runs);
         let script = "011000000000\n011000000000\n011000000000\n010400000003000000010002\n\
                       02000300\nrequest 0 0 1\n";
         assert_eq!(found.script.to_string(), script);

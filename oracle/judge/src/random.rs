@@ -363,6 +363,7 @@ fn random_asking(random: &mut Random, expression: u16, prime: bool) -> Command {
 #[cfg(test)]
 mod tests {
     use super::*;
+    use std::collections::HashSet;
 
     #[test]
     fn a_case_depends_on_its_seed_and_index_only() {
@@ -370,6 +371,69 @@ mod tests {
         assert_eq!(text(7, 3), text(7, 3));
         assert_ne!(text(7, 3), text(7, 4));
         assert_ne!(text(7, 3), text(8, 3));
+    }
+
+    /// Whole runs, as many as the gate compares.
+    fn runs() -> impl Iterator<Item = Script> {
+        (0..2000).map(|index| whole_run(1, index))
+    }
+
+    #[test]
+    fn whole_runs_show_every_node_and_request() {
+        let mut nodes = HashSet::new();
+        let mut requests = HashSet::new();
+        for script in runs() {
+            nodes.extend(script.pool.nodes().iter().map(|node| (node.kind.byte(), node.next)));
+            requests.extend(script.requests().map(|r| (r.prime, r.muladd)));
+            assert!(script.commands.len() <= MAX_REQUESTS);
+            assert!(script.requests().all(|request| request.asked.is_none()));
+        }
+        let kinds = Kind::OPERATIONS.into_iter().chain(Kind::LEAVES);
+        let every: HashSet<_> =
+            kinds.flat_map(|kind| [(kind.byte(), false), (kind.byte(), true)]).collect();
+        assert_eq!(nodes, every);
+        assert_eq!(requests.len(), 4);
+    }
+
+    #[test]
+    fn whole_runs_go_to_the_limits() {
+        let scripts: Vec<Script> = runs().collect();
+        let most = |of: fn(&Script) -> usize| scripts.iter().map(of).max().unwrap_or(0);
+        assert_eq!(most(|script| script.pool.nodes().len()), MAX_NODES);
+        assert_eq!(most(|script| script.pool.expressions().len()), MAX_EXPRESSIONS);
+        assert_eq!(most(|script| script.commands.len()), MAX_REQUESTS);
+        assert!(most(levels) > 10, "{} levels", most(levels));
+        assert!(most(depth) > 500, "a depth of {}", most(depth));
+    }
+
+    /// The longest way from a node down to a leaf.
+    fn depth(script: &Script) -> usize {
+        let mut depths: Vec<usize> = Vec::new();
+        for node in script.pool.nodes() {
+            let below = node.children.iter().map(|&child| depths[usize::from(child)]).max();
+            depths.push(1 + below.unwrap_or(0));
+        }
+        depths.into_iter().max().unwrap_or(0)
+    }
+
+    /// The longest way from an expression through exp leaves.
+    fn levels(script: &Script) -> usize {
+        let (nodes, expressions) = (script.pool.nodes(), script.pool.expressions());
+        let owners = pool::owners(nodes, expressions);
+        let mut levels = vec![1; expressions.len()];
+        // Without a cycle, nothing grows any more after as many rounds as there are levels.
+        let mut grown = true;
+        while grown {
+            grown = false;
+            for (node, owner) in nodes.iter().zip(&owners).filter(|(n, _)| n.kind == Kind::EXP) {
+                if let Some(owner) = *owner {
+                    let wanted = 1 + levels[usize::from(node.id)];
+                    grown |= levels[owner] < wanted;
+                    levels[owner] = levels[owner].max(wanted);
+                }
+            }
+        }
+        levels.into_iter().max().unwrap_or(0)
     }
 
     #[test]

@@ -161,6 +161,6 @@ end
             fault("run a\noutput me\n"),
             "line 2: digits, `each` or `text` come here, not \"output me\""
         );
-        assert_eq!(fault(&TWO.repeat(2)), "line 16: there are two runs bare");
+        assert_eq!(fault(&TWO.repeat(2)), "line 17: there are two runs bare");
     }
 }

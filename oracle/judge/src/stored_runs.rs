@@ -88,15 +88,18 @@ mod tests {
 
     const STORED: &str = concat!(env!("CARGO_MANIFEST_DIR"), "/../../vectors/steps.txt");
 
+    fn stored() -> String {
+        std::fs::read_to_string(STORED).expect("the stored runs")
+    }
+
     #[test]
     fn the_stored_file_is_what_is_written() {
-        let stored = std::fs::read_to_string(STORED).expect("the stored runs");
-        assert!(text().unwrap() == stored, "{} is not what `judge steps-write` gives", STORED);
+        assert!(text().unwrap() == stored(), "{} is not what `judge steps-write` gives", STORED);
     }
 
     #[test]
     fn every_refusal_of_a_whole_run_is_there() {
-        let runs = runs::parse(&text().unwrap()).unwrap();
+        let runs = runs::parse(&stored()).unwrap();
         let seen: BTreeSet<(bool, String)> = runs
             .iter()
             .filter(|run| run.output.len() == 1)
@@ -111,11 +114,10 @@ mod tests {
     /// What is marked as the document's is nothing that the original could be asked.
     #[test]
     fn the_document_speaks_only_where_the_original_cannot() {
-        for run in runs::parse(&text().unwrap()).unwrap() {
-            let asked = original_output(&run.input);
-            let limits = ["nodes-4097", "expressions-513", "requests-1025", "9-after-"];
-            if run.source == Source::Document && !limits.iter().any(|l| run.name.starts_with(l)) {
-                assert!(asked.is_err(), "{}", run.name);
+        // The original has no limits; the judge's pools have theirs, but requests have none.
+        for run in runs::parse(&stored()).unwrap() {
+            if run.source == Source::Document && !run.name.starts_with("requests-1025") {
+                assert!(original_output(&run.input).is_err(), "{}", run.name);
             }
         }
     }
