@@ -7,6 +7,7 @@
 //! text BYTES        these bytes and no line feed; \n is a line feed, \xHH any byte
 //! ```
 
+use crate::hex;
 use std::fmt;
 
 #[derive(Clone, Debug, PartialEq, Eq)]
@@ -74,9 +75,12 @@ fn filled(template: &str, number: u16) -> Result<String, String> {
     for part in parts {
         let (offset, rest) =
             part.split_once('}').ok_or_else(|| format!("{:?} has an open brace", template))?;
-        let offset: i32 = match offset {
-            "" => 0,
-            _ => offset.parse().map_err(|_| format!("{:?} is no offset", offset))?,
+        let offset: i32 = match offset.as_bytes() {
+            [] => 0,
+            [b'+' | b'-', ..] => {
+                offset.parse().map_err(|_| format!("{:?} is no offset", offset))?
+            }
+            _ => return Err(format!("the offset {:?} has no sign", offset)),
         };
         let shifted = u16::try_from(i32::from(number) + offset)
             .map_err(|_| format!("{:?} leaves four digits at {}", template, number))?;
@@ -101,29 +105,26 @@ fn escape(bytes: &[u8]) -> String {
 
 fn unescape(text: &str) -> Result<Vec<u8>, String> {
     let wrong = || format!("{:?} is not letters, digits, \\n and \\xHH", text);
+    if !text.bytes().all(|byte| byte == b'\\' || byte.is_ascii_alphanumeric()) {
+        return Err(wrong());
+    }
     let mut parts = text.split('\\');
     let mut bytes = parts.next().unwrap_or("").as_bytes().to_vec();
     for part in parts {
-        let (byte, rest) = match part.as_bytes() {
-            [b'n', rest @ ..] => (b'\n', rest),
-            [b'x', high, low, rest @ ..] => {
-                let digits = [*high, *low];
-                let digits = std::str::from_utf8(&digits).map_err(|_| wrong())?;
-                (u8::from_str_radix(digits, 16).map_err(|_| wrong())?, rest)
+        let rest = match (part.strip_prefix('n'), part.strip_prefix('x')) {
+            (Some(rest), _) => {
+                bytes.push(b'\n');
+                rest
+            }
+            (_, Some(digits)) if digits.len() >= 2 => {
+                bytes.extend(hex::decode(&digits[..2]).map_err(|_| wrong())?);
+                &digits[2..]
             }
             _ => return Err(wrong()),
         };
-        bytes.push(byte);
-        bytes.extend(rest);
+        bytes.extend(rest.as_bytes());
     }
-    match unescape_is_plain(text) {
-        true => Ok(bytes),
-        false => Err(wrong()),
-    }
-}
-
-fn unescape_is_plain(text: &str) -> bool {
-    text.bytes().all(|byte| byte == b'\\' || byte.is_ascii_alphanumeric())
+    Ok(bytes)
 }
 
 impl fmt::Display for Piece {
@@ -148,8 +149,8 @@ mod tests {
 
     #[test]
     fn pieces_are_written_as_they_were_read() {
-        for line in ["00ff", "each 0 4095 01{}00{-1}{+512}", "text 0G\\x0d\\n", "text "] {
-            assert!(line.contains("{-1}") || Piece::parse(line).unwrap().to_string() == line);
+        for line in ["00ff", "each 1 4095 01{}00{-1}{+512}", "text 0G\\x0d\\n"] {
+            assert_eq!(Piece::parse(line).unwrap().to_string(), line);
         }
         let every = Piece::Text((0..=255).collect());
         assert_eq!(Piece::parse(&every.to_string()), Ok(every));
@@ -168,7 +169,7 @@ mod tests {
 
     #[test]
     fn wrong_pieces_are_refused() {
-        for line in ["", "0F", "0 1", "each 0 1", "each 0 65536 00", "each 0 1 {", "each 0 1 {x}"] {
+        for line in ["", "0F", "0 1", "each 0 1", "each 0 65536 00", "each 0 1 {", "each 0 1 {1}"] {
             assert!(Piece::parse(line).is_err(), "{:?}", line);
         }
         for line in
