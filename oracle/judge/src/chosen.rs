@@ -67,7 +67,8 @@ pub fn chosen() -> Vec<Chosen> {
         cycles(),
         double_primes(),
         limits(),
-        chains(),
+        deep_trees(),
+        deep_expressions(),
         orders(),
     ]
     .concat()
@@ -520,62 +521,51 @@ fn limits() -> Vec<Chosen> {
     ]
 }
 
-/// As deep as a pool can be.
-fn chains() -> Vec<Chosen> {
-    let negs = |request: &[Piece]| {
-        [&[cm(), each(0, 4094, "010700000001{}"), line("020fff00")], request].concat()
+/// The reference of the literal 0, from which neg subtracts.
+const ZERO: &str = "14000000000000000000000000";
+
+/// A tree as deep as a pool can be: 4,095 times neg, above a leaf.
+fn deep_trees() -> Vec<Chosen> {
+    let asked = |requests: &[Piece]| {
+        [&[cm(), each(0, 4094, "010700000001{}"), line("020fff00")], requests].concat()
     };
-    // 0 - a, where a is what comes last: into a temporary, from the one before.
-    let zero = "14000000000000000000000000";
-    let step = |prime: &str, shift: u16| {
-        let first = format!("0220{:04x}0002{}100000{}", shift, zero, prime);
-        let middle = format!("0220{{+{}}}0002{}20{{+{}}}00", shift + 1, zero, shift);
-        let last = format!("02120000{}02{}20{:04x}00", prime, zero, shift + 4093);
-        [line(&first), each(0, 4092, &middle), line(&last)]
+    let block = |prime: &str, first: u16| {
+        let leaf = format!("0220{:04x}0002{}100000{}", first, ZERO, prime);
+        let middle = format!("0220{{+{}}}0002{}20{{+{}}}00", first + 1, ZERO, first);
+        let root = format!("02120000{}02{}20{:04x}00", prime, ZERO, first + 4093);
+        [line(&leaf), each(0, 4092, &middle), line(&root)]
     };
-    let depths = |request: &[Piece]| {
-        let pool = [
-            cm(),
-            each(0, 510, "011200{}00"),
-            each(0, 511, "010700000001{}"),
-            each(512, 1023, "02{}00"),
-        ];
-        [&pool[..], request].concat()
-    };
-    let block = |prime: &str| {
-        let first = format!("02120000{}02{}100000{}", prime, zero, prime);
-        let middle = format!("0212{{}}{}02{}12{{-1}}{}", prime, zero, prime);
-        [line(&first), each(1, 511, &middle)]
-    };
-    let ends = |counter: &str| [line(counter)];
+    let once = |prime| [&block(prime, 0)[..], &[line("fe0ffe")]].concat();
+    let twice = [&block("00", 0)[..], &block("01", 4094), &[line("fe1ffc")]].concat();
     vec![
-        in_short("neg-4095", &negs(&[plain(0)]), &[&step("00", 0)[..], &ends("fe0ffe")].concat()),
-        in_short(
-            "neg-4095-primed",
-            &negs(&[primed(0)]),
-            &[&step("01", 0)[..], &ends("fe0ffe")].concat(),
-        ),
-        in_short(
-            "neg-4095-fused",
-            &negs(&[request(0, 0, 1)]),
-            &[&step("00", 0)[..], &ends("fe0ffe")].concat(),
-        ),
-        in_short(
-            "neg-4095-plain-and-primed",
-            &negs(&[plain(0), primed(0)]),
-            &[&step("00", 0)[..], &step("01", 4094), &ends("fe1ffc")].concat(),
-        )
-        .note("8,190 steps, the most that there can be"),
-        in_short(
-            "expressions-512-deep",
-            &depths(&[plain(511)]),
-            &[&block("00")[..], &ends("fe0000")].concat(),
-        ),
-        in_short(
-            "expressions-512-deep-both",
-            &depths(&[primed(511), plain(511)]),
-            &[&block("01")[..], &block("00"), &ends("fe0000")].concat(),
-        ),
+        in_short("neg-4095", &asked(&[plain(0)]), &once("00")),
+        in_short("neg-4095-primed", &asked(&[primed(0)]), &once("01")),
+        in_short("neg-4095-fused", &asked(&[request(0, 0, 1)]), &once("00")),
+        in_short("neg-4095-plain-and-primed", &asked(&[plain(0), primed(0)]), &twice)
+            .note("8,190 steps, the most that there can be"),
+        document("neg-4096", 9, &[cm(), each(0, 4095, "010700000001{}"), root(4096), plain(0)]),
+    ]
+}
+
+/// As many levels of expressions as there can be: each is neg of the one before.
+fn deep_expressions() -> Vec<Chosen> {
+    let pool = [
+        cm(),
+        each(0, 510, "011200{}00"),
+        each(0, 511, "010700000001{}"),
+        each(512, 1023, "02{}00"),
+    ];
+    let asked = |requests: &[Piece]| [&pool[..], requests].concat();
+    let blocks = |prime: &str| {
+        let first = format!("02120000{}02{}100000{}", prime, ZERO, prime);
+        let others = format!("0212{{}}{}02{}12{{-1}}{}", prime, ZERO, prime);
+        [line(&first), each(1, 511, &others)]
+    };
+    let once = [&blocks("00")[..], &[line("fe0000")]].concat();
+    let twice = [&blocks("01")[..], &blocks("00"), &[line("fe0000")]].concat();
+    vec![
+        in_short("expressions-512-deep", &asked(&[plain(511)]), &once),
+        in_short("expressions-512-deep-both", &asked(&[primed(511), plain(511)]), &twice),
     ]
 }
 

@@ -80,15 +80,18 @@ fn compare_all(
             return Ok((tally, None));
         }
         let script = random::whole_run(seed, index);
-        let named = |text| format!("run {} of seed {}: {}", index, seed, text);
-        let (printed, difference) = compare(program, &script).map_err(named).map_err(|text| {
-            end.fetch_min(index, Ordering::SeqCst);
-            text
-        })?;
-        tally.count(&script, &printed, difference.is_none());
-        if let Some(text) = difference {
-            end.fetch_min(index, Ordering::SeqCst);
-            return Ok((tally, Some(Difference { index, script, text })));
+        let stop_the_others = || end.fetch_min(index, Ordering::SeqCst);
+        match compare(program, &script) {
+            Ok((printed, None)) => tally.count(&script, &printed, true),
+            Ok((printed, Some(text))) => {
+                stop_the_others();
+                tally.count(&script, &printed, false);
+                return Ok((tally, Some(Difference { index, script, text })));
+            }
+            Err(text) => {
+                stop_the_others();
+                return Err(format!("run {} of seed {}: {}", index, seed, text));
+            }
         }
     }
 }
