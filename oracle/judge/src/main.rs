@@ -24,6 +24,7 @@ judge - asks the original Rust for generation, and keeps its answers
   judge write                         prints the vectors that vectors/generation.txt stores
   judge random SEED COUNT [NODES]     prints COUNT random vectors, of NODES nodes if that is said
   judge steps PROGRAM SEED COUNT      compares PROGRAM with the original on COUNT random inputs
+  judge steps-input SEED INDEX        prints one of these inputs, the first being 0
   judge steps-answer [FILE]           prints what PROGRAM should print to the frames in FILE, or on
                                       standard input
   judge steps-check PROGRAM FILE      replays every run of FILE on PROGRAM
@@ -62,6 +63,7 @@ fn main() -> ExitCode {
         ["random", seed, count] => random_vectors(seed, count, None),
         ["random", seed, count, nodes] => random_vectors(seed, count, Some(nodes)),
         ["steps", program, seed, count] => compare(program, seed, count),
+        ["steps-input", seed, index] => one_input(seed, index),
         ["steps-answer"] => standard_input().and_then(|text| printed("standard input", &text)),
         ["steps-answer", file] => contents(file).and_then(|text| printed(file, &text)),
         ["steps-check", program, file] => {
@@ -143,6 +145,11 @@ fn compare(program: &str, seed: &str, count: &str) -> Result<ExitCode, String> {
     eprint!("{}", found.script.frames());
     eprintln!("{}", found.text);
     Ok(ExitCode::from(DIFFERENT))
+}
+
+fn one_input(seed: &str, index: &str) -> Result<ExitCode, String> {
+    let script = random::whole_run(number(seed, "SEED")?, number(index, "INDEX")?);
+    print(&script.frames())
 }
 
 fn printed(source: &str, text: &str) -> Result<ExitCode, String> {
