@@ -62,6 +62,10 @@ impl StepBytes {
         }
         Ok(StepBytes(bytes))
     }
+
+    pub fn is(&self, step: Step) -> bool {
+        self.0[0] == step.byte()
+    }
 }
 
 /// A reference: kind, id, prime, and for number its literal.
@@ -109,12 +113,18 @@ impl fmt::Display for Answer {
             Answer::Built { first, i, last, state } => {
                 for (name, list) in [("first", first), ("i", i), ("last", last)] {
                     for step in list {
-                        writeln!(f, "{} {}", name, hex::encode(&step.0))?;
+                        writeln!(f, "{} {}", name, step)?;
                     }
                 }
                 writeln!(f, "{}", state)
             }
         }
+    }
+}
+
+impl fmt::Display for StepBytes {
+    fn fmt(&self, f: &mut fmt::Formatter<'_>) -> fmt::Result {
+        f.write_str(&hex::encode(&self.0))
     }
 }
 
@@ -157,7 +167,7 @@ mod tests {
 
     fn encoded(op: &str, dest: code::Node, src: Vec<code::Node>) -> Result<String, String> {
         let section = code::Section { op: op.to_string(), dest, src };
-        StepBytes::of(&section).map(|step| hex::encode(&step.0))
+        StepBytes::of(&section).map(|step| step.to_string())
     }
 
     #[test]

@@ -3,17 +3,29 @@
 //! `kinds`, `hex`, `literal`, `pool` and `script` read what is asked; `run` asks the original and
 //! `answer` writes what it says; `case`, `surprises`, `exhaustive` and `random` think up scripts;
 //! `vectors` and `stored` keep them with their answers.
+//!
+//! The program `steps` is compared on whole runs: `printed` says what the original's answer looks
+//! like in its output, `program` asks it, `differ` compares on random inputs and `shrink` makes
+//! smaller what differs; `chosen` thinks up inputs, and `texts`, `runs` and `stored_runs` keep them.
 
 pub mod answer;
 pub mod case;
+pub mod chosen;
+pub mod differ;
 pub mod exhaustive;
 pub mod hex;
 pub mod kinds;
 pub mod literal;
 pub mod pool;
+pub mod printed;
+pub mod program;
 pub mod random;
 pub mod run;
+pub mod runs;
 pub mod script;
+pub mod shrink;
 pub mod stored;
+pub mod stored_runs;
 pub mod surprises;
+pub mod texts;
 pub mod vectors;

@@ -1,10 +1,15 @@
 //! The judge's command line.
 
 use judge::answer::Answer;
+use judge::differ::differ;
+use judge::printed::Printed;
+use judge::program::Process;
 use judge::random;
 use judge::run::run;
+use judge::runs;
 use judge::script::{numbered, Script};
 use judge::stored;
+use judge::stored_runs;
 use judge::vectors::{self, Vector};
 use std::env;
 use std::fs;
@@ -18,6 +23,12 @@ judge - asks the original Rust for generation, and keeps its answers
   judge check FILE                    asks again for every vector of FILE and compares
   judge write                         prints the vectors that vectors/generation.txt stores
   judge random SEED COUNT [NODES]     prints COUNT random vectors, of NODES nodes if that is said
+  judge steps PROGRAM SEED COUNT      compares PROGRAM with the original on COUNT random inputs
+  judge steps-input SEED INDEX        prints one of these inputs, the first being 0
+  judge steps-answer [FILE]           prints what PROGRAM should print to the frames in FILE, or on
+                                      standard input
+  judge steps-check PROGRAM FILE      replays every run of FILE on PROGRAM
+  judge steps-write                   prints the runs that vectors/steps.txt stores
   judge --help                        prints this
 
 A script is a pool in the frames of document 01, one a line in lower-case hexadecimal, and then
@@ -31,7 +42,11 @@ commands:
 Lines that begin with # and empty lines are passed over. A run ends at the first refusal. How
 answers and vectors are written stands at the head of vectors/generation.txt.
 
-Exit status: 0; 1 if vectors differ; 2 if something could not be read or answered.
+PROGRAM is document 01's `steps`: frames on standard input, the first list and the counter on
+standard output. How its runs are written stands at the head of vectors/steps.txt. At the first
+difference `judge steps` stops, and prints as small an input as it finds that shows one.
+
+Exit status: 0; 1 if something differs; 2 if something could not be read or answered.
 ";
 
 const DIFFERENT: u8 = 1;
@@ -47,6 +62,14 @@ fn main() -> ExitCode {
         ["write"] => stored::text().and_then(|text| print(&text)),
         ["random", seed, count] => random_vectors(seed, count, None),
         ["random", seed, count, nodes] => random_vectors(seed, count, Some(nodes)),
+        ["steps", program, seed, count] => compare(program, seed, count),
+        ["steps-input", seed, index] => one_input(seed, index),
+        ["steps-answer"] => standard_input().and_then(|text| printed("standard input", &text)),
+        ["steps-answer", file] => contents(file).and_then(|text| printed(file, &text)),
+        ["steps-check", program, file] => {
+            contents(file).and_then(|text| check_runs(program, file, &text))
+        }
+        ["steps-write"] => stored_runs::text().and_then(|text| print(&text)),
         ["--help"] | ["-h"] | ["help"] => print(HELP),
         _ => Err(format!("this is how it is asked:\n\n{}", HELP)),
     };
@@ -108,6 +131,46 @@ fn random_vectors(seed: &str, count: &str, nodes: Option<&str>) -> Result<ExitCo
         print(&format!("{}{}", if index == 0 { "" } else { "\n" }, vector))?;
     }
     Ok(ExitCode::SUCCESS)
+}
+
+fn compare(program: &str, seed: &str, count: &str) -> Result<ExitCode, String> {
+    let (seed, count) = (number(seed, "SEED")?, number(count, "COUNT")?);
+    let (tally, difference) = differ(&Process { path: program }, seed, count)?;
+    print(&format!("| {:<28} | {:>10} |\n|---|---|\n{}", "Seed", seed, tally))?;
+    let found = match difference {
+        None => return Ok(ExitCode::SUCCESS),
+        Some(found) => found,
+    };
+    eprintln!("run {} of seed {} differs, and so does this one:", found.index, seed);
+    eprint!("{}", found.script.frames());
+    eprintln!("{}", found.text);
+    Ok(ExitCode::from(DIFFERENT))
+}
+
+fn one_input(seed: &str, index: &str) -> Result<ExitCode, String> {
+    let script = random::whole_run(number(seed, "SEED")?, number(index, "INDEX")?);
+    print(&script.frames())
+}
+
+fn printed(source: &str, text: &str) -> Result<ExitCode, String> {
+    let script = Script::from_frames(text).map_err(|fault| format!("{}, {}", source, fault))?;
+    print(&Printed::of(&script)?.to_string())
+}
+
+fn check_runs(program: &str, file: &str, text: &str) -> Result<ExitCode, String> {
+    let runs = runs::parse(text).map_err(|fault| format!("{}, {}", file, fault))?;
+    if runs.is_empty() {
+        return Err(format!("{} has no runs", file));
+    }
+    let mut equal = 0;
+    for run in &runs {
+        match run.difference(&Process { path: program })? {
+            None => equal += 1,
+            Some(difference) => eprintln!("{}: {}", run.name, difference),
+        }
+    }
+    print(&format!("steps: {} runs, {} equal\n", runs.len(), equal))?;
+    Ok(if equal == runs.len() { ExitCode::SUCCESS } else { ExitCode::from(DIFFERENT) })
 }
 
 fn number(word: &str, name: &str) -> Result<u64, String> {

@@ -18,6 +18,9 @@ use std::fmt;
 
 pub const REQUEST_FRAME: u8 = 0x03;
 
+/// The most requests that the program `steps` takes.
+pub const MAX_REQUESTS: usize = 1024;
+
 /// The reference that a request asks its result to be copied to.
 #[derive(Clone, Copy, Debug, PartialEq, Eq)]
 pub struct Asked {
@@ -86,6 +89,37 @@ impl Script {
         Ok(script)
     }
 
+    /// Reads an input of the program `steps`: frames only, a last line feed or none.
+    pub fn from_frames(text: &str) -> Result<Script, TextFault> {
+        match text.split_inclusive('\n').position(|line| !is_frame(line)) {
+            Some(index) => {
+                Err(TextFault { line: index + 1, text: "a frame comes here".to_string() })
+            }
+            None => Script::parse(numbered(text)),
+        }
+    }
+
+    /// The pool and the requests as an input of the program `steps`. Builds and results that
+    /// are asked for have no frame.
+    pub fn frames(&self) -> String {
+        let mut text = String::new();
+        let mut push = |frame: Vec<u8>| {
+            text.push_str(&hex::encode(&frame));
+            text.push('\n');
+        };
+        self.pool.nodes().iter().for_each(|node| push(node.frame()));
+        self.pool.expressions().iter().for_each(|expression| push(expression.frame()));
+        self.requests().for_each(|request| push(request.frame()));
+        text
+    }
+
+    pub fn requests(&self) -> impl Iterator<Item = &Request> {
+        self.commands.iter().filter_map(|command| match command {
+            Command::Request(request) => Some(request),
+            Command::Build => None,
+        })
+    }
+
     fn take_line(&mut self, text: &str) -> Result<(), String> {
         let words: Vec<&str> = text.split_whitespace().collect();
         match words[..] {
@@ -134,6 +168,14 @@ impl Request {
         })
     }
 
+    /// The frame of the same request without the result that it asks for.
+    fn frame(&self) -> Vec<u8> {
+        let mut bytes = vec![REQUEST_FRAME];
+        bytes.extend(self.expression.to_be_bytes());
+        bytes.extend([u8::from(self.prime), u8::from(self.muladd)]);
+        bytes
+    }
+
     /// Reads what follows the frame's first byte.
     fn read(mut reader: Reader<'_>) -> Result<Request, String> {
         let expression = reader.u16()?;
@@ -155,6 +197,11 @@ impl Asked {
             .ok_or_else(|| format!("no result has kind {:02x}", byte))?;
         Ok(Asked { kind, id: number(id, "an id")? })
     }
+}
+
+/// Whether a line, with its line feed or none, is hexadecimal.
+fn is_frame(line: &str) -> bool {
+    hex::decode(line.strip_suffix('\n').unwrap_or(line)).is_ok()
 }
 
 fn number(word: &str, name: &str) -> Result<u16, String> {
@@ -237,6 +284,18 @@ mod tests {
         let frames = parse(&format!("{}0300000001\n0301ff0100", PRODUCT)).unwrap();
         let words = parse(&format!("{}request 0 0 1\nrequest 511 1 0", PRODUCT)).unwrap();
         assert_eq!(frames, words);
+    }
+
+    #[test]
+    fn frames_lead_back_to_their_script() {
+        let text = format!("{}0300000001\n0301ff0100\n", PRODUCT);
+        let script = Script::from_frames(&text).unwrap();
+        assert_eq!(script.frames(), text);
+        assert_eq!(Script::from_frames(&text[..text.len() - 1]).unwrap(), script);
+        for other in ["build\n", "\n", "# none\n", "request 0 0 0\n", "0300000001\r\n"] {
+            let fault = Script::from_frames(other).expect_err(other).to_string();
+            assert_eq!(fault, "line 1: a frame comes here");
+        }
     }
 
     #[test]
