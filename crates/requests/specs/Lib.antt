@@ -7,3 +7,4 @@ pub mod Runs
 pub mod Reads
 pub mod Serving
 pub mod Demand3
+pub mod Exactly
