@@ -59,34 +59,63 @@ module _ (rows : ℕ) (E : Forest) where
       go [] f = absurd (Option·none-ne-some x f)
       go (y ∷ F) f = rw h
 
-  -- a request without a mark that asks for no result
-  generate-asks :
-      (q : Request) → NoResult q → (st : State) →
-      (generate rows E q st then λ s. copyOut (q .expression) (q .row) (q .result) s) ≡ (ask rows E (q .fused) (q .expression) (q .row) (st .marks) then λ a. done (adding E a st))
-  generate-asks q n st = go (ask rows E (q .fused) (q .expression) (q .row) (st .marks))
+  -- 7, where the request's cell is marked or not
+  abbrev pub resultAllowed : Request → Bool → Answer (Unit {0})
+  resultAllowed q marked = cond marked (done tt) (plainResult (q .row) (q .result))
+
+  -- ONE REQUEST: asked for, its result allowed, its blocks made, and its result copied
+  pub serve-is :
+      (q : Request) (st : State) →
+      serve rows E q st
+      ≡ (askOne rows E q (st .marks) then λ a. resultAllowed q (st .marks (q .expression) (q .row)) then λ _. copyOut (q .expression) (q .row) (q .result) (adding E a st))
+  serve-is q st = go (nth E (q .expression)) refl
     where
+      e : ℕ
+      e = q .expression
+
+      r : ℕ
+      r = q .row
+
+      allowed :
+          (a : Asked) (y : Answer (Unit {0})) →
+          ((y then λ _. done (adding E a st)) then λ s. copyOut e r (q .result) s) ≡ (y then λ _. copyOut e r (q .result) (adding E a st))
+      allowed a (done u) = refl
+      allowed a (refused k o) = refl
+
+      unmarked :
+          (z : Answer Asked) →
+          ((z then λ a. plainResult r (q .result) then λ _. done (adding E a st)) then λ s. copyOut e r (q .result) s)
+          ≡ (z then λ a. plainResult r (q .result) then λ _. copyOut e r (q .result) (adding E a st))
+      unmarked (done a) = allowed a (plainResult r (q .result))
+      unmarked (refused k o) = refl
+
+      by :
+          (x : Expression) → nth E e ≡ some x → (b : Bool) → st .marks e r ≡ b →
+          (cond b (done st) (generate rows E q st) then λ s. copyOut e r (q .result) s)
+          ≡ (ask rows E (q .fused) e r (st .marks) then λ a. resultAllowed q b then λ _. copyOut e r (q .result) (adding E a st))
+      by x f true h = rw (ask-marked (q .fused) e r (st .marks) x f h) (ap (copyOut e r (q .result)) (sym (adding-nothing E st)))
+      by x f false h = unmarked (ask rows E (q .fused) e r (st .marks))
+
+      go :
+          (o : Option Expression) → nth E e ≡ o →
+          (there o then λ _. cond (st .marks e r) (done st) (generate rows E q st) then λ s. copyOut e r (q .result) s)
+          ≡ ((there o then λ _. ask rows E (q .fused) e r (st .marks)) then λ a. resultAllowed q (st .marks e r) then λ _. copyOut e r (q .result) (adding E a st))
+      go none f = refl
+      go (some x) f = by x f (st .marks e r) refl
+
+  -- that asks for no result
+  pub serve-asks : (q : Request) → NoResult q → (st : State) → serve rows E q st ≡ (askOne rows E q (st .marks) then λ a. done (adding E a st))
+  serve-asks q n st = serve-is q st ∙ go (askOne rows E q (st .marks))
+    where
+      plain : (b : Bool) → resultAllowed q b ≡ done tt
+      plain true = refl
+      plain false = rw n
+
       go :
           (z : Answer Asked) →
-          ((z then λ a. plainResult (q .row) (q .result) then λ _. done (adding E a st)) then λ s. copyOut (q .expression) (q .row) (q .result) s) ≡ (z then λ a. done (adding E a st))
-      go (done a) = rw n
+          (z then λ a. resultAllowed q (st .marks (q .expression) (q .row)) then λ _. copyOut (q .expression) (q .row) (q .result) (adding E a st)) ≡ (z then λ a. done (adding E a st))
+      go (done a) = rw (plain (st .marks (q .expression) (q .row)), n)
       go (refused k o) = refl
-
-  pub serve-asks : (q : Request) → NoResult q → (st : State) → serve rows E q st ≡ (askOne rows E q (st .marks) then λ a. done (adding E a st))
-  serve-asks q n st = go (nth E (q .expression)) refl
-    where
-      by :
-          (x : Expression) → nth E (q .expression) ≡ some x → (b : Bool) → st .marks (q .expression) (q .row) ≡ b →
-          (cond b (done st) (generate rows E q st) then λ s. copyOut (q .expression) (q .row) (q .result) s)
-          ≡ (ask rows E (q .fused) (q .expression) (q .row) (st .marks) then λ a. done (adding E a st))
-      by x f true h = rw (ask-marked (q .fused) (q .expression) (q .row) (st .marks) x f h, n) (ap done (sym (adding-nothing E st)))
-      by x f false h = generate-asks q n st
-
-      go :
-          (o : Option Expression) → nth E (q .expression) ≡ o →
-          (there o then λ _. cond (st .marks (q .expression) (q .row)) (done st) (generate rows E q st) then λ s. copyOut (q .expression) (q .row) (q .result) s)
-          ≡ ((there o then λ _. ask rows E (q .fused) (q .expression) (q .row) (st .marks)) then λ a. done (adding E a st))
-      go none f = refl
-      go (some x) f = by x f (st .marks (q .expression) (q .row)) refl
 
   -- SERVING ALL REQUESTS IS ASKING FOR ALL THEIR BLOCKS AND THEN MAKING THESE
   pub serveAll-asks : (qs : List Request) → Each NoResult qs → (st : State) → serveAll rows E qs st ≡ (askAll rows E qs (st .marks) then λ a. done (adding E a st))

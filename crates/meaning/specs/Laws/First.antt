@@ -15,7 +15,7 @@ refusal-stays (done a) f h = absurd (h refl)
 refusal-stays (refused r n) f h = refl
 
 module _ (rows : ℕ) (E : Forest) where
-  serve-append : (xs ys : List Request) (st : State) → serveAll rows E (xs ++ ys) st ≡ (serveAll rows E xs st then λ s. serveAll rows E ys s)
+  pub serve-append : (xs ys : List Request) (st : State) → serveAll rows E (xs ++ ys) st ≡ (serveAll rows E xs st then λ s. serveAll rows E ys s)
   serve-append [] ys st = refl
   serve-append (x ∷ xs) ys st = go (serve rows E x st) (serve-append xs ys)
     where
