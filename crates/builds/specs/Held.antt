@@ -109,14 +109,14 @@ pub held-none : (t l : List ℕ) → Held t l 0 []
 unfolding first
 held-none t l = refl
 
--- BLOCKS ADDED after those that are held: the table goes on, and so does the list
-module _ (t l t′ : List ℕ) (n : ℕ) (bs cs : List Block) (held : Held t l n bs) (same : (k : ℕ) → k < n → getD t′ k 0 ≡ getD t k 0) where
+-- BLOCKS ADDED after those that stand: the table goes on, and so does the list
+module _ (t l t′ : List ℕ) (n : ℕ) (cs : List Block) (same : (k : ℕ) → k < n → getD t′ k 0 ≡ getD t k 0) where
   start-same : (k : ℕ) → k ≤ n → startOf t′ k ≡ startOf t k
   unfolding startOf
   start-same zero h = refl
   start-same (suc k) h = rw (start-same k (omega arith), same k (omega arith))
 
-  abbrev put : List ℕ
+  abbrev pub put : List ℕ
   put = write l (stepSize * startOf t n) (encoded (every cs))
 
   before-same : (k : ℕ) → k < n → rawBlockAt t′ put k ≡ rawBlockAt t l k
@@ -144,10 +144,11 @@ module _ (t l t′ : List ℕ) (n : ℕ) (bs cs : List Block) (held : Held t l n
     added : from (rawBlockAt t′ put) n (length cs) ≡ rawOf cs
     added = held-from t′ put cs n (record { cells = cells; words = words; steps = rw (start-same n (omega arith)) put-records })
 
-    pub held-added : Held t′ put (n + length cs) (bs ++ cs)
-    held-added =
-        first-from (rawBlockAt t′ put) n (length cs)
-        ∙ rw (first-same (rawBlockAt t l) (rawBlockAt t′ put) n before-same, held, added) (sym (raw-append bs cs))
+    pub raw-added : rawBlocks t′ put (n + length cs) ≡ rawBlocks t l n ++ rawOf cs
+    raw-added = first-from (rawBlockAt t′ put) n (length cs) ∙ rw (first-same (rawBlockAt t l) (rawBlockAt t′ put) n before-same, added)
+
+    pub held-added : (bs : List Block) → Held t l n bs → Held t′ put (n + length cs) (bs ++ cs)
+    held-added bs held = raw-added ∙ rw held (sym (raw-append bs cs))
 
 -- A RESULT'S COPY put into tables that hold blocks: they hold the blocks with the copy
 module _ (t l : List ℕ) (n e r : ℕ) (d : typed.Ref) (row : r < 2) (bs : List Block) (held : Held t l n bs) where

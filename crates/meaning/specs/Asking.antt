@@ -1,17 +1,15 @@
--- Requests that ask for no result, as two phases: the blocks of all of them in order, or the refusal; then these blocks made. The laws say that
--- this is what serving them one after another does.
+-- Asking for the blocks of requests, all of them in order, or the refusal; and blocks made one after another.
 -- Assumes nothing.
 use Prim.Native.Nat.{ℕ}
 use mathlib.Core.Path.{_≡_, refl, sym, _∙_, ap}
-use mathlib.Core.Bool.{Bool, true, false, cond}
+use mathlib.Core.Bool.{Bool, true}
 use mathlib.Core.Option.{Option, none, some, Option·none-ne-some}
 use mathlib.Core.List.{List, [], _∷_, _++_, append-assoc, append-nil}
 use lib.ListN.{length}
 use Rattle.meaning.specs.Refusals.{Refusal, Answer, done, refused, _then_}
-use Rattle.meaning.specs.Trees.{Expression, Forest, nth, Each}
-use Rattle.meaning.specs.Order.{Marks, Job, Asked, nothing, there, fresh, askBelow, ask}
-use Rattle.meaning.specs.Generation.{Block, State, Request, Made, makeOne, make, plainResult, copyOut, adding, generate, serve, serveAll}
-use Rattle.meaning.specs.Demand3.{NoResult}
+use Rattle.meaning.specs.Trees.{Expression, Forest, nth}
+use Rattle.meaning.specs.Order.{Marks, Job, Asked, nothing, there, askBelow, ask}
+use Rattle.meaning.specs.Generation.{Block, State, Request, Made, makeOne, make, adding}
 
 -- what one asks for and then the other
 abbrev pub both : Asked → Asked → Asked
@@ -39,100 +37,25 @@ make-append E (x ∷ xs) ys t =
     ∙ ap (λ (l : List Block). record { blocks = l; counter = make E ys (make E xs (u .counter) .counter) .counter })
     (sym (append-assoc (u .blocks) (make E xs (u .counter) .blocks) (make E ys (make E xs (u .counter) .counter) .blocks)))
 
-adding-both : (E : Forest) (a b : Asked) (st : State) → adding E b (adding E a st) ≡ adding E (both a b) st
+pub adding-both : (E : Forest) (a b : Asked) (st : State) → adding E b (adding E a st) ≡ adding E (both a b) st
 adding-both E a b st =
     let x = make E (a .jobs) (st .counter) in
     let y = make E (b .jobs) (x .counter) in
     ap (λ (l : List Block). record { marks = b .marks; blocks = l; counter = y .counter }) (append-assoc (st .blocks) (x .blocks) (y .blocks))
     ∙ ap (λ (z : Made). record { marks = b .marks; blocks = st .blocks ++ z .blocks; counter = z .counter }) (sym (make-append E (a .jobs) (b .jobs) (st .counter)))
 
-adding-nothing : (E : Forest) (st : State) → adding E (nothing (st .marks)) st ≡ st
+pub adding-nothing : (E : Forest) (st : State) → adding E (nothing (st .marks)) st ≡ st
 adding-nothing E st = ap (λ (l : List Block). record { marks = st .marks; blocks = l; counter = st .counter }) (append-nil (st .blocks))
 
--- ── serving is asking and then adding ────────────────────────────────────────
+-- ── requests one after another ───────────────────────────────────────────────
 module _ (rows : ℕ) (E : Forest) where
   -- where there is an expression, one that is marked asks for nothing
-  ask-marked : (fused : Bool) (e r : ℕ) (m : Marks) (x : Expression) → nth E e ≡ some x → m e r ≡ true → ask rows E fused e r m ≡ done (nothing m)
+  pub ask-marked : (fused : Bool) (e r : ℕ) (m : Marks) (x : Expression) → nth E e ≡ some x → m e r ≡ true → ask rows E fused e r m ≡ done (nothing m)
   ask-marked fused e r m x f h = go E f
     where
       go : (F : Forest) → nth F e ≡ some x → askBelow rows E (length F) fused e r m ≡ done (nothing m)
       go [] f = absurd (Option·none-ne-some x f)
       go (y ∷ F) f = rw h
-
-  -- 7, where the request's cell is marked or not
-  abbrev pub resultAllowed : Request → Bool → Answer (Unit {0})
-  resultAllowed q marked = cond marked (done tt) (plainResult (q .row) (q .result))
-
-  -- ONE REQUEST: asked for, its result allowed, its blocks made, and its result copied
-  pub serve-is :
-      (q : Request) (st : State) →
-      serve rows E q st
-      ≡ (askOne rows E q (st .marks) then λ a. resultAllowed q (st .marks (q .expression) (q .row)) then λ _. copyOut (q .expression) (q .row) (q .result) (adding E a st))
-  serve-is q st = go (nth E (q .expression)) refl
-    where
-      e : ℕ
-      e = q .expression
-
-      r : ℕ
-      r = q .row
-
-      allowed :
-          (a : Asked) (y : Answer (Unit {0})) →
-          ((y then λ _. done (adding E a st)) then λ s. copyOut e r (q .result) s) ≡ (y then λ _. copyOut e r (q .result) (adding E a st))
-      allowed a (done u) = refl
-      allowed a (refused k o) = refl
-
-      unmarked :
-          (z : Answer Asked) →
-          ((z then λ a. plainResult r (q .result) then λ _. done (adding E a st)) then λ s. copyOut e r (q .result) s)
-          ≡ (z then λ a. plainResult r (q .result) then λ _. copyOut e r (q .result) (adding E a st))
-      unmarked (done a) = allowed a (plainResult r (q .result))
-      unmarked (refused k o) = refl
-
-      by :
-          (x : Expression) → nth E e ≡ some x → (b : Bool) → st .marks e r ≡ b →
-          (cond b (done st) (generate rows E q st) then λ s. copyOut e r (q .result) s)
-          ≡ (ask rows E (q .fused) e r (st .marks) then λ a. resultAllowed q b then λ _. copyOut e r (q .result) (adding E a st))
-      by x f true h = rw (ask-marked (q .fused) e r (st .marks) x f h) (ap (copyOut e r (q .result)) (sym (adding-nothing E st)))
-      by x f false h = unmarked (ask rows E (q .fused) e r (st .marks))
-
-      go :
-          (o : Option Expression) → nth E e ≡ o →
-          (there o then λ _. cond (st .marks e r) (done st) (generate rows E q st) then λ s. copyOut e r (q .result) s)
-          ≡ ((there o then λ _. ask rows E (q .fused) e r (st .marks)) then λ a. resultAllowed q (st .marks e r) then λ _. copyOut e r (q .result) (adding E a st))
-      go none f = refl
-      go (some x) f = by x f (st .marks e r) refl
-
-  -- that asks for no result
-  pub serve-asks : (q : Request) → NoResult q → (st : State) → serve rows E q st ≡ (askOne rows E q (st .marks) then λ a. done (adding E a st))
-  serve-asks q n st = serve-is q st ∙ go (askOne rows E q (st .marks))
-    where
-      plain : (b : Bool) → resultAllowed q b ≡ done tt
-      plain true = refl
-      plain false = rw n
-
-      go :
-          (z : Answer Asked) →
-          (z then λ a. resultAllowed q (st .marks (q .expression) (q .row)) then λ _. copyOut (q .expression) (q .row) (q .result) (adding E a st)) ≡ (z then λ a. done (adding E a st))
-      go (done a) = rw (plain (st .marks (q .expression) (q .row)), n)
-      go (refused k o) = refl
-
-  -- SERVING ALL REQUESTS IS ASKING FOR ALL THEIR BLOCKS AND THEN MAKING THESE
-  pub serveAll-asks : (qs : List Request) → Each NoResult qs → (st : State) → serveAll rows E qs st ≡ (askAll rows E qs (st .marks) then λ a. done (adding E a st))
-  serveAll-asks [] n st = ap done (sym (adding-nothing E st))
-  serveAll-asks (q ∷ qs) n st = ap (λ (z : Answer State). z then λ s. serveAll rows E qs s) (serve-asks q (n .0) st) ∙ go (askOne rows E q (st .marks)) (serveAll-asks qs (n .1))
-    where
-      then-both :
-          (a : Asked) (z : Answer Asked) →
-          (z then λ b. done (adding E b (adding E a st))) ≡ ((z then λ b. done (both a b)) then λ c. done (adding E c st))
-      then-both a (done b) = ap done (adding-both E a b st)
-      then-both a (refused k o) = refl
-
-      go :
-          (z : Answer Asked) → ((s : State) → serveAll rows E qs s ≡ (askAll rows E qs (s .marks) then λ a. done (adding E a s))) →
-          ((z then λ a. done (adding E a st)) then λ s. serveAll rows E qs s) ≡ ((z then λ a. askAll rows E qs (a .marks) then λ b. done (both a b)) then λ c. done (adding E c st))
-      go (done a) ih = ih (adding E a st) ∙ then-both a (askAll rows E qs (a .marks))
-      go (refused k o) ih = refl
 
   -- ── one request more ───────────────────────────────────────────────────────
   pub ask-snoc :

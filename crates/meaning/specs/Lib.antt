@@ -10,6 +10,7 @@ pub mod Generation
 pub mod Building
 pub mod Demand3
 pub mod Asking
+pub mod Holding
 pub mod Conditions
 pub mod Laws
 pub mod Models

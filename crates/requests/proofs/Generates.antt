@@ -32,10 +32,10 @@ use Rattle.starkinfo_codegen.specs.Totals.{counter-is}
 use Rattle.requests.specs.Planning.{requestAt, requestsIn, Adds, Says}
 use Rattle.requests.specs.Making.{Held, JobThere, stepsFrom, allSteps, JobsAsk, SizeIs, Room}
 use Rattle.requests.specs.Generating.{numberLimit, hasRoom, Fits, Makes, Overflows, GenerateAsks}
-use Rattle.requests.specs.Serving.{each-first}
+use Rattle.requests.specs.Jobs.{steps-count}
+use Rattle.requests.specs.Jobs as jobs
 use Rattle.requests.specs.declared.plan.Plan.{Plan}
 use Rattle.requests.specs.declared.plan.Plan.the-variants as plan
-use Rattle.requests.proofs.Makes.{steps-count}
 
 -- ── what a plan says ─────────────────────────────────────────────────────────
 module _ (y : Answer Asked) (s′ j j′ : List ℕ) (p : Plan) (g : Says y s′ j j′ 0 p) where
@@ -78,30 +78,8 @@ module _ (w x : List ℕ) (b : Rest) (A : Acyclic (forest (poolOf w b))) {r s j 
   X = askAll 2 G (requestsIn r count) (marksOf s)
 
   module _ {s′ j′ : List ℕ} {n : ℕ} (d : Adds X s′ j j′ 0 n) where
-    found : Each (λ y. (z : meaning.Expression) × (nth G (y .expression) ≡ some z)) (d .jobs)
-    found = all-found 2 G (requestsIn r count) (marksOf s) _ (d .is)
-
-    there : Each (JobThere b) (d .jobs)
-    there =
-        each-both (λ y. (z : meaning.Expression) × (nth G (y .expression) ≡ some z)) (λ y. y .row < 2) (JobThere b)
-        (λ y f q. (omega (arith, nth-below G (y .expression) (f .1), forest-size (poolOf w b), expression-count (tablesOf w b)), q)) (d .jobs) found
-        (all-rows 2 G (requestsIn r count) (marksOf s) _ (each-first (λ q. q .row < 2) (requestAt r) count (a .plan .inRows)) (d .is))
-
-    held : Held j′ (d .jobs)
-    held k h =
-        let e = words-length (d .jobs) in
-        ap (λ (z : List ℕ). getD z k 0) (d .written)
-        ∙ rw zero-add at (write-there j 0 (jobWords (d .jobs)) k (omega (arith, e, d .count, d .state .room, a .plan .state .jobsSize)) (omega (arith, e)))
-
     pub jobs-ask : JobsAsk w x b (d .jobs) j′ n
-    jobs-ask = record {
-      world = a .plan .world;
-      size = d .state .jobsSize;
-      held = held;
-      there = there;
-      count = d .count ∙ zero-add (length (d .jobs));
-      few = omega (arith, d .state .room);
-    }
+    jobs-ask = jobs.jobs-ask w x b A (a .plan) d
 
     module _ {v : ℕ} (z : SizeIs w x b (d .jobs) n v) where
       pub sizes : (at ≤ 65535) × (t ≤ 65535) × (n ≤ v) × (v ≤ 4194304)
@@ -111,7 +89,7 @@ module _ (w x : List ℕ) (b : Rest) (A : Acyclic (forest (poolOf w b))) {r s j 
       steps-are = steps-count G (d .jobs) t ∙ sym (z .total)
 
       counter-is-v : make G (d .jobs) t .counter ≡ t + (v - n)
-      counter-is-v = omega (arith, counter-is G (d .jobs) t found, steps-are, z .some, d .count)
+      counter-is-v = omega (arith, counter-is G (d .jobs) t (jobs.jobs-found w x b A (a .plan) d), steps-are, z .some, d .count)
 
       module _ {size : ℕ} where
         pub room : hasRoom size at t n v ≡ true → Room w x b (d .jobs) at t size

@@ -36,29 +36,8 @@ use Rattle.starkinfo_codegen.specs.Making.{block-made}
 use Rattle.starkinfo_codegen.specs.Ordering.{cellOf, jobAt, jobWords, World}
 use Rattle.starkinfo_codegen.specs.JobWords.{jobIn, job-back}
 use Rattle.requests.specs.Making.{wordOf, JobSays, Held, JobThere, madeOf, stepsFrom, jobSteps, allSteps, E, OneAsks, OneRoom, OneMakes, JobsAsk, SizeIs, Room}
+use Rattle.requests.specs.Jobs.{block-any, steps-any, steps-count}
 use Rattle.requests.specs.declared.make.Job as code
-
--- how many steps a block has does not hang on the temporary that it starts from
-block-any : (e : Expr) (r t u : ℕ) (d : Ref) → length (blockSteps (emit e r t) d) ≡ length (blockSteps (emit e r u) d)
-block-any e r t u d = go (eqb (ops e) 0) refl
-  where
-    go : (v : Bool) → eqb (ops e) 0 ≡ v → length (blockSteps (emit e r t) d) ≡ length (blockSteps (emit e r u) d)
-    go true q = let z = eqb-true (ops e) 0 q in block-leaf r t e d z ∙ sym (block-leaf r u e d z)
-    go false q = let z = eqb-false (ops e) 0 q in block-count r t e d z ∙ sym (block-count r u e d z)
-
--- so for a job, and for jobs one after another
-steps-any : (y : Job) (o : Option meaning.Expression) (t : ℕ) → length (every (makeOne y o t .blocks)) ≡ length (every (makeOne y o 0 .blocks))
-steps-any y none t = refl
-steps-any y (some z) t =
-    simp append-nil (block-any (asked (y .fused) (z .tree)) (y .row) t 0 (Ref.var (expCell (y .expression) (y .row))))
-
-pub steps-count : (G : meaning.Forest) (js : List Job) (t : ℕ) → length (stepsFrom G js t) ≡ allSteps G js
-steps-count G [] t = refl
-steps-count G (y ∷ js) t =
-    let u = madeOf G y t in
-    ap length (every-append (u .blocks) (make G js (u .counter) .blocks))
-    ∙ length-append (every (u .blocks)) (stepsFrom G js (u .counter))
-    ∙ omega (arith, steps-any y (nth G (y .expression)) t, steps-count G js (u .counter))
 
 -- ── one job ──────────────────────────────────────────────────────────────────
 module _ (w x : List ℕ) (b : Rest) (y : Job) {word : ℕ} (a : OneAsks w x b y word) where

@@ -44,7 +44,8 @@ use Rattle.requests.specs.declared.generate.Generation.{Generation}
 use Rattle.requests.specs.declared.generate.Generation.the-variants as generation
 use Rattle.requests.specs.declared.whole.Whole.{Whole}
 use Rattle.requests.specs.declared.whole.Whole.the-variants as whole
-use Rattle.requests.specs.Serving.{each-first, whole-asks}
+use Rattle.requests.specs.Jobs.{each-first}
+use Rattle.requests.specs.Serving.{whole-asks}
 
 pub replicate-zero : (n c : ℕ) → _≡_ {A = ℕ} (getD (replicate n 0) c 0) 0
 replicate-zero zero c = refl

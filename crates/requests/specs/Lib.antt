@@ -1,6 +1,8 @@
 -- The definitions that the contracts cite, and the laws on them that other crates use.
 pub mod Planning
 pub mod Making
+pub mod Jobs
+pub mod Last
 pub mod Generating
 pub mod Whole
 pub mod Runs

@@ -15,7 +15,8 @@ use Rattle.meaning.specs.Order.{unmarked, Asked}
 use Rattle.meaning.specs.Generation.{Request, start, make, adding}
 use Rattle.meaning.specs.Building.{Segment, every, segment, whole}
 use Rattle.meaning.specs.Demand3.{NoResult}
-use Rattle.meaning.specs.Asking.{askAll, serveAll-asks}
+use Rattle.meaning.specs.Asking.{askAll}
+use Rattle.meaning.specs.Holding.{serveAll-asks}
 use Rattle.meaning.specs.Laws.Tests.{each-join, then-done, done-same, done-not-refused}
 use Rattle.meaning.specs.Laws.Once.{all-found}
 use Rattle.kinds.specs.Steps.{stepSize}
@@ -36,11 +37,6 @@ use Rattle.requests.specs.Planning.{requestOf}
 use Rattle.requests.specs.Generating.{numberLimit}
 use Rattle.requests.specs.Whole.{fitting, served, Answers}
 use Rattle.requests.specs.Runs.{requestsOf, Runs}
-
-pub each-first : {B : Type 0} (P : B → Type 0) (g : ℕ → B) (n : ℕ) → ((k : ℕ) → k < n → P (g k)) → Each P (first g n)
-unfolding first
-each-first P g zero h = tt
-each-first P g (suc n) h = each-join P (first g n) (g n ∷ []) (each-first P g n (λ k l. h k (omega arith))) (h n (omega arith), tt)
 
 -- ── asking and then making ───────────────────────────────────────────────────
 module _ (E : Forest) (qs : List Request) (h : Each NoResult qs) where

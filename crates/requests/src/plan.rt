@@ -16,7 +16,7 @@ pub enum Plan {
 }
 
 // Request `k` after n jobs, in a pool of m expressions.
-fn plan_request(
+pub fn plan_request(
     nodes: &[u64; NODE_WORDS],
     expressions: &[u64; EXPRESSION_LIMIT],
     requests: &[u64; REQUEST_LIMIT],

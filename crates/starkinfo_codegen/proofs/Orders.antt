@@ -31,6 +31,7 @@ use Rattle.starkinfo_codegen.specs.Words.{nodeAt}
 use Rattle.starkinfo_codegen.specs.Operations.{operationAt}
 use Rattle.starkinfo_codegen.specs.Emitting.{Rest, tablesOf, poolOf, Pooled, treeOf}
 use Rattle.starkinfo_codegen.specs.JobWords.{words-append, words-length}
+use Rattle.starkinfo_codegen.specs.Marked.{zeros-set, marked, not-marked, marks-set}
 use Rattle.starkinfo_codegen.specs.Ordering.{leavesOf, verdict, OutAsks, cellOf, marksOf, jobAt, jobWords, State, Stopped, Made, Gives, CodeAsks, DepsAsks, coded, needed}
 use Rattle.starkinfo_codegen.specs.declared.operation.Operation.{Operation}
 use Rattle.starkinfo_codegen.proofs.Planned.{Operand, Planned}
@@ -49,58 +50,6 @@ job-plain c f h = rw h (sym (add-zero (c * 2)))
 write-one : (l : List ℕ) (i v : ℕ) → set l i v ≡ write l i (v ∷ [])
 unfolding write
 write-one l i v = refl
-
--- ── marks ────────────────────────────────────────────────────────────────────
-pub zeros-set : (l : List ℕ) (c : ℕ) → c < length l → getD l c 0 ≡ 0 → zeros (set l c 1) + 1 ≡ zeros l
-unfolding zeros
-zeros-set [] c h z = absurd (not-suc-le-zero h)
-zeros-set (zero ∷ l) zero h z = omega arith
-zeros-set (suc x ∷ l) zero h z = absurd (omega (arith, z))
-zeros-set (zero ∷ l) (suc c) h z = omega (arith, zeros-set l c (le-of-suc-le-suc h) z)
-zeros-set (suc x ∷ l) (suc c) h z = zeros-set l c (le-of-suc-le-suc h) z
-
-module _ (s : List ℕ) (e r : ℕ) (h : r < 2) where
-  pub marked : 1 ≤ getD s (cellOf e r) 0 → marksOf s e r ≡ true
-  unfolding marksOf
-  marked g = rw (lt-ltb r 2 h, lt-ltb 0 (getD s (cellOf e r) 0) g)
-
-  pub not-marked : getD s (cellOf e r) 0 ≡ 0 → marksOf s e r ≡ false
-  unfolding marksOf
-  not-marked g = rw (lt-ltb r 2 h, g)
-
-  marks-set-at : cellOf e r < length s → (e′ r′ : ℕ) → marking (marksOf s) e r e′ r′ ≡ marksOf (set s (cellOf e r) 1) e′ r′
-  unfolding marksOf
-  marks-set-at l e′ r′ = go (ltb r′ 2) (eqb (cellOf e′ r′) (cellOf e r)) refl refl
-    where
-      off : (eqb e e′ && eqb r r′) ≡ false → (v v′ : Bool) → v ≡ v′ → ((eqb e e′ && eqb r r′) || v) ≡ v′
-      off q v v′ p = rw q p
-
-      neither : ((e ≡ e′) → (r ≡ r′) → ⊥) → (eqb e e′ && eqb r r′) ≡ false
-      neither n = by (eqb e e′) (eqb r r′) refl refl
-        where
-          by : (x y : Bool) → eqb e e′ ≡ x → eqb r r′ ≡ y → (x && y) ≡ false
-          by true true p q = absurd (n (eqb-true e e′ p) (eqb-true r r′ q))
-          by true false p q = refl
-          by false y p q = refl
-
-      go :
-          (x y : Bool) → ltb r′ 2 ≡ x → eqb (cellOf e′ r′) (cellOf e r) ≡ y →
-          ((eqb e e′ && eqb r r′) || (ltb r′ 2 && ltb 0 (getD s (cellOf e′ r′) 0))) ≡ (ltb r′ 2 && ltb 0 (getD (set s (cellOf e r) 1) (cellOf e′ r′) 0))
-      go false y p q = let g = ltb-false r′ 2 p in rw (p, neither (λ a b. omega (arith, g, h, b)))
-      go true true p q =
-          let g = ltb-true r′ 2 p in
-          let k = eqb-true (cellOf e′ r′) (cellOf e r) q in
-          let a : e ≡ e′ = omega (arith, g, h, k) in
-          let b : r ≡ r′ = omega (arith, g, h, k) in
-          let z : getD (set s (cellOf e r) 1) (cellOf e′ r′) 0 ≡ 1 = ap (λ c. getD (set s (cellOf e r) 1) c 0) k ∙ getD-set-same s (cellOf e r) 1 0 l in
-          rw (p, z, eq-eqb e e′ a, eq-eqb r r′ b)
-      go true false p q =
-          let k = eqb-false (cellOf e′ r′) (cellOf e r) q in
-          let z = getD-set-other s (cellOf e r) (cellOf e′ r′) 1 0 k in
-          rw (p, z, neither (λ a b. k (omega (arith, a, b))))
-
-  pub marks-set : cellOf e r < length s → marking (marksOf s) e r ≡ marksOf (set s (cellOf e r) 1)
-  marks-set l = fun-ext (λ e′. fun-ext (λ r′. marks-set-at l e′ r′))
 
 -- ── leaves one after another ─────────────────────────────────────────────────
 abbrev Asks : Type 0

@@ -11,5 +11,6 @@ pub mod Sizes
 pub mod Making
 pub mod Ordering
 pub mod JobWords
+pub mod Marked
 pub mod Requests
 pub mod Totals

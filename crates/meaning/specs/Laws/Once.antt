@@ -28,7 +28,7 @@ chain-append m [] ys h k = k
 chain-append m (x ∷ xs) ys h k = (h .0, chain-append (marking m (x .expression) (x .row)) xs ys (h .1) k)
 
 -- jobs of other expressions leave a cell as it is
-after-other : (m : Marks) (js : List Job) (e r : ℕ) → Each (λ j. j .expression ≡ e → ⊥) js → after m js e r ≡ m e r
+pub after-other : (m : Marks) (js : List Job) (e r : ℕ) → Each (λ j. j .expression ≡ e → ⊥) js → after m js e r ≡ m e r
 after-other m [] e r h = refl
 after-other m (j ∷ js) e r h = after-other (marking m (j .expression) (j .row)) js e r (h .1) ∙ rw (ne-eqb (j .expression) e (h .0))
 
