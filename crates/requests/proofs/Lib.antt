@@ -2,5 +2,6 @@
 pub mod Plans
 pub mod Lasts
 pub mod Makes
+pub mod Places
 pub mod Generates
 pub mod Wholes

@@ -36,7 +36,7 @@ use Rattle.starkinfo_codegen.specs.Making.{block-made}
 use Rattle.starkinfo_codegen.specs.Ordering.{cellOf, jobAt, jobWords, World}
 use Rattle.starkinfo_codegen.specs.JobWords.{jobIn, job-back}
 use Rattle.requests.specs.Making.{wordOf, JobSays, Held, JobThere, madeOf, stepsFrom, jobSteps, allSteps, E, OneAsks, OneRoom, OneMakes, JobsAsk, SizeIs, Room}
-use Rattle.requests.specs.Jobs.{block-any, steps-any, steps-count}
+use Rattle.requests.specs.Jobs.{block-any, steps-any, steps-count, some-steps, enough-steps}
 use Rattle.requests.specs.declared.make.Job as code
 
 -- ── one job ──────────────────────────────────────────────────────────────────
@@ -148,7 +148,7 @@ words-at [] k h = absurd (not-suc-le-zero h)
 words-at (y ∷ js) zero h = refl
 words-at (y ∷ js) (suc k) h = words-at js k (le-of-suc-le-suc h)
 
-each-at : (P : Job → Type 0) (js : List Job) (k : ℕ) → k < length js → Each P js → P (nthJob js k)
+pub each-at : (P : Job → Type 0) (js : List Job) (k : ℕ) → k < length js → Each P js → P (nthJob js k)
 each-at P [] k h e = absurd (not-suc-le-zero h)
 each-at P (y ∷ js) zero h e = e .0
 each-at P (y ∷ js) (suc k) h e = each-at P js k (le-of-suc-le-suc h) (e .1)
@@ -164,19 +164,19 @@ module _ (w x : List ℕ) (b : Rest) (js : List Job) {j : List ℕ} {n : ℕ} (a
   F = E w x b
 
   module _ {k : ℕ} (h : k < n) where
-    inside : k < length js
+    pub inside : k < length js
     inside = omega (arith, a .count)
 
     pub one-asks : OneAsks w x b (nthJob js k) (getD j k 0)
     one-asks = record { world = a .world; there = each-at (JobThere b) js k inside (a .there); says = a .held k inside ∙ words-at js k inside }
 
-    rest-is : drop k js ≡ nthJob js k ∷ drop (suc k) js
+    pub rest-is : drop k js ≡ nthJob js k ∷ drop (suc k) js
     rest-is = drop-cons js k noJob inside
 
     steps-left : allSteps F (drop k js) ≡ jobSteps F (nthJob js k) + allSteps F (drop (suc k) js)
     steps-left = ap (allSteps F) rest-is
 
-  nothing-left : {k : ℕ} → k ≤ n → n ≤ k → drop k js ≡ []
+  pub nothing-left : {k : ℕ} → k ≤ n → n ≤ k → drop k js ≡ []
   nothing-left {k} g h = let e : k ≡ length js = omega (arith, a .count) in rw (e, drop-length)
 
   -- the steps up to job k, counted
@@ -193,23 +193,10 @@ module _ (w x : List ℕ) (b : Rest) (js : List Job) {j : List ℕ} {n : ℕ} (a
       let e : k + 1 ≡ suc k = omega arith in
       record { below = omega arith; total = rw e (omega (arith, c .total, steps-left h, g .0)); small = omega (arith, c .small, g .1) }
 
-  -- a block has a step
-  some-steps : (y : Job) → JobThere b y → 1 ≤ jobSteps F y
-  some-steps y t =
-      let f = forest-has (poolOf w b) (y .expression) (subst (λ m. y .expression < m) (sym (expression-count (tablesOf w b))) (t .0)) in
-      let e = asked (y .fused) (f .0 .tree) in
-      let d = Ref.var (expCell (y .expression) (y .row)) in
-      let k : length (blockSteps (emit e (y .row) 0) d ++ []) ≡ length (blockSteps (emit e (y .row) 0) d) = ap length (append-nil (blockSteps (emit e (y .row) 0) d)) in
-      rw (f .1) (omega (arith, k, block-enough (y .row) 0 e d .1))
-
-  enough-steps : (ys : List Job) → Each (JobThere b) ys → length ys ≤ allSteps F ys
-  enough-steps [] h = omega arith
-  enough-steps (y ∷ ys) h = omega (arith, some-steps y (h .0), enough-steps ys (h .1))
-
   pub all-counted : {steps k : ℕ} → Counted steps k → n ≤ k → SizeIs w x b js n steps
   all-counted {steps} {k} c h =
       let e : steps ≡ allSteps F js = omega (arith, c .total, ap (allSteps F) (nothing-left (c .below) h)) in
-      record { total = e; some = omega (arith, e, enough-steps js (a .there), a .count); small = omega (arith, c .small, c .below) }
+      record { total = e; some = omega (arith, e, enough-steps w x b js (a .there), a .count); small = omega (arith, c .small, c .below) }
 
   -- ── blocks written ─────────────────────────────────────────────────────────
   module _ (l₀ : List ℕ) {at₀ t₀ : ℕ} (o : Room w x b js at₀ t₀ (length l₀)) where
@@ -228,7 +215,7 @@ module _ (w x : List ℕ) (b : Rest) (js : List Job) {j : List ℕ} {n : ℕ} (a
       pub one-room : OneRoom w x b (nthJob js k) at t (length l)
       one-room =
           let e = steps-left h in
-          let g = enough-steps (drop (suc k) js) (each-drop (JobThere b) js (suc k) (a .there)) in
+          let g = enough-steps w x b (drop (suc k) js) (each-drop (JobThere b) js (suc k) (a .there)) in
           let r : length (drop (suc k) js) ≡ length js - suc k = simp length-drop in
           record {
             rows = o .rows;
@@ -238,14 +225,14 @@ module _ (w x : List ℕ) (b : Rest) (js : List Job) {j : List ℕ} {n : ℕ} (a
 
       pub grows : {l′ : List ℕ} {r : ℕ} → OneMakes w x b (nthJob js k) at t l l′ r → (stepSize * (at + r) ≤ length l₀) × (1 ≤ r) × (t + r ≤ 65536)
       grows m =
-          let s = some-steps (nthJob js k) (each-at (JobThere b) js k (inside h) (a .there)) in
+          let s = some-steps w x b (nthJob js k) (each-at (JobThere b) js k (inside h) (a .there)) in
           (omega (arith, m .count, one-room .fits, p .size), omega (arith, m .count, s), omega (arith, m .count, one-room .counter))
 
       pub again : {l′ : List ℕ} {r : ℕ} → OneMakes w x b (nthJob js k) at t l l′ r → length l′ ≡ length l → Progress l′ (at + r) (t + (r - 1)) (k + 1)
       again {l′} {r} m q =
           let y = nthJob js k in
           let ks = drop (suc k) js in
-          let u : madeOf F y t .counter ≡ t + (r - 1) = omega (arith, m .counter, m .count, some-steps y (each-at (JobThere b) js k (inside h) (a .there))) in
+          let u : madeOf F y t .counter ≡ t + (r - 1) = omega (arith, m .counter, m .count, some-steps w x b y (each-at (JobThere b) js k (inside h) (a .there))) in
           let z : k + 1 ≡ suc k = omega arith in
           let v : stepSize * at + length (encoded (every (madeOf F y t .blocks))) ≡ stepSize * (at + r) = omega (arith, encoded-length (every (madeOf F y t .blocks)), m .steps) in
           let c : encoded (stepsFrom F (drop k js) t) ≡ encoded (every (madeOf F y t .blocks)) ++ encoded (stepsFrom F ks (t + (r - 1)))

@@ -1,11 +1,11 @@
 -- Laws of jobs that were planned: how many steps they have does not hang on where they start, their expressions and rows are there, no cell is made
 -- twice, and they may be counted and made.
 -- Assumes nothing.
-use Prim.Native.Nat.{ℕ, zero, suc, _<_}
-use mathlib.Core.Path.{_≡_, refl, sym, _∙_, ap}
+use Prim.Native.Nat.{ℕ, zero, suc, _<_, _≤_}
+use mathlib.Core.Path.{_≡_, refl, sym, _∙_, ap, subst}
 use mathlib.Core.Bool.{Bool, true, false}
 use mathlib.Core.Option.{Option, none, some}
-use mathlib.Core.List.{List, [], _∷_, append-nil}
+use mathlib.Core.List.{List, [], _∷_, _++_, append-nil}
 use native.Mathlib.Omega.{arith}
 use native.Mathlib.Nat.{zero-add}
 use lib.ListN.{length, getD, length-append}
@@ -27,14 +27,14 @@ use Rattle.kinds.specs.Write.{write, write-there}
 use Rattle.frames.specs.Tables.{first}
 use Rattle.pool.specs.Trees.{forest}
 use Rattle.pool.specs.Laws.Tabled.{expression-count}
-use Rattle.pool.specs.Laws.Forest.{nth-below, forest-size}
+use Rattle.pool.specs.Laws.Forest.{nth-below, forest-has, forest-size}
 use Rattle.starkinfo_codegen.specs.Counting.{ops}
-use Rattle.starkinfo_codegen.specs.Roots.{block-count, block-leaf}
+use Rattle.starkinfo_codegen.specs.Roots.{block-count, block-leaf, block-enough}
 use Rattle.starkinfo_codegen.specs.Emitting.{Rest, tablesOf, poolOf}
 use Rattle.starkinfo_codegen.specs.Ordering.{marksOf, jobWords}
 use Rattle.starkinfo_codegen.specs.JobWords.{words-length}
 use Rattle.requests.specs.Planning.{requestAt, requestsIn, Adds, PlanAsks}
-use Rattle.requests.specs.Making.{Held, JobThere, madeOf, stepsFrom, allSteps, JobsAsk}
+use Rattle.requests.specs.Making.{Held, JobThere, madeOf, stepsFrom, jobSteps, allSteps, E, JobsAsk}
 
 pub each-first : {B : Type 0} (P : B → Type 0) (g : ℕ → B) (n : ℕ) → ((k : ℕ) → k < n → P (g k)) → Each P (first g n)
 unfolding first
@@ -63,6 +63,20 @@ steps-count G (y ∷ js) t =
     ap length (every-append (u .blocks) (make G js (u .counter) .blocks))
     ∙ length-append (every (u .blocks)) (stepsFrom G js (u .counter))
     ∙ omega (arith, steps-any y (nth G (y .expression)) t, steps-count G js (u .counter))
+
+-- a block has a step
+module _ (w x : List ℕ) (b : Rest) where
+  pub some-steps : (y : Job) → JobThere b y → 1 ≤ jobSteps (E w x b) y
+  some-steps y t =
+      let f = forest-has (poolOf w b) (y .expression) (subst (λ m. y .expression < m) (sym (expression-count (tablesOf w b))) (t .0)) in
+      let e = asked (y .fused) (f .0 .tree) in
+      let d = Ref.var (expCell (y .expression) (y .row)) in
+      let k : length (blockSteps (emit e (y .row) 0) d ++ []) ≡ length (blockSteps (emit e (y .row) 0) d) = ap length (append-nil (blockSteps (emit e (y .row) 0) d)) in
+      rw (f .1) (omega (arith, k, block-enough (y .row) 0 e d .1))
+
+  pub enough-steps : (ys : List Job) → Each (JobThere b) ys → length ys ≤ allSteps (E w x b) ys
+  enough-steps [] h = omega arith
+  enough-steps (y ∷ ys) h = omega (arith, some-steps y (h .0), enough-steps ys (h .1))
 
 -- ── jobs that were planned ───────────────────────────────────────────────────
 module _ (w x : List ℕ) (b : Rest) (A : Acyclic (forest (poolOf w b))) {r s j : List ℕ} {m count : ℕ} (a : PlanAsks w x b A r s j m count) where

@@ -3,6 +3,7 @@ pub mod Planning
 pub mod Making
 pub mod Jobs
 pub mod Last
+pub mod Placing
 pub mod Generating
 pub mod Whole
 pub mod Runs

@@ -2,6 +2,7 @@
 pub mod generate;
 pub mod last;
 pub mod make;
+pub mod place;
 pub mod plan;
 pub mod run;
 pub mod whole;

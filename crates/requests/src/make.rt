@@ -27,7 +27,11 @@ fn job_of(word: u64) -> Job
     }
 }
 
-fn size_one(nodes: &[u64; NODE_WORDS], expressions: &[u64; EXPRESSION_LIMIT], word: u64) -> usize
+pub fn size_one(
+    nodes: &[u64; NODE_WORDS],
+    expressions: &[u64; EXPRESSION_LIMIT],
+    word: u64,
+) -> usize
     requires { ⌜ OneSizeAsked (now nodes) (now expressions) word ⌝ }
     ensures { λ r. ⌜ OneSizeGiven (now (nodes .entry)) (now (expressions .entry)) word r ⌝ }
 {
