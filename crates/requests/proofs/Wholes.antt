@@ -45,6 +45,7 @@ use Rattle.requests.specs.declared.generate.Generation.the-variants as g
 use Rattle.requests.specs.declared.whole.Whole.{Whole}
 use Rattle.requests.specs.declared.whole.Whole.the-variants as whole
 use Rattle.requests.specs.Jobs.{each-first}
+use Rattle.requests.specs.Admitted.{rest}
 use Rattle.requests.specs.Serving.{whole-asks}
 
 pub replicate-zero : (n c : ℕ) → _≡_ {A = ℕ} (getD (replicate n 0) c 0) 0
@@ -144,42 +145,14 @@ module _ (w x : List ℕ) (b : Rest) (A : Acyclic (forest (poolOf w b))) {r : Li
 
 -- ── the pool before them ─────────────────────────────────────────────────────
 module _ (w x r : List ℕ) (c : Counts) (a : WholeAsked w x r c) (literals : List ℕ) where
-  abbrev pub rest : Rest
-  rest = record { literals = literals; expressions = x; nodeCount = c .nodes; expressionCount = c .expressions }
-
-  abbrev p : Pool
-  p = poolIn w literals x c
-
-  -- what admission answers, by its case
-  pub judged-as : {t : List ℕ} {d : Admission} → Admits (Tabling w literals x (c .nodes) (c .expressions)) t d → t ≡ [] → {u : admit.Verdict} → d .verdict ≡ u → Verdict p [] (verdictSays u)
-  judged-as {d = d} h e q = subst (λ z. Verdict p [] (verdictSays z)) q (subst (λ (t : List ℕ). Verdict p t (verdictSays (d .verdict))) e (h .judged))
-
   -- 2, 3 or 4
   pub pool-refused :
-      {k : Refusal} {o : Option ℕ} → Verdict p [] (refused k o) → (l : List ℕ) (g : Whole) → wholeSays g ≡ refused k o →
-      (z : Answer Segment) × Answers p (requestsIn r (c .requests)) (length l) z × Tells z l l g
+      {k : Refusal} {o : Option ℕ} → Verdict (poolIn w literals x c) [] (refused k o) → (l : List ℕ) (g : Whole) → wholeSays g ≡ refused k o →
+      (z : Answer Segment) × Answers (poolIn w literals x c) (requestsIn r (c .requests)) (length l) z × Tells z l l g
   pool-refused {k} {o} v l g e = (refused k o, (refused k o, v, refl), record { says = e; list = refl })
 
-  module _ (v : Verdict p [] (done tt)) where
-    shaped : Shaped p × Acyclic (forest p)
-    shaped = exactly-0 p (done tt) v .0 refl
-
-    pub acyclic : Acyclic (forest (poolOf w rest))
-    acyclic = shaped .1
-
-    next-fits : (n : ℕ) → n < c .nodes → 1 + nodeAt w n .next ≤ 255
-    next-fits n h = omega (arith, a .next n h)
-
-    pub fresh-asks : FreshAsks w x rest acyclic r (c .expressions) (c .requests)
-    fresh-asks = record {
-      world = record { pool = record { shaped = shaped .0; few = a .nodes }; few = a .expressions; roots = refl };
-      expressions = refl;
-      few = a .requests;
-      inRows = λ k h. omega (arith, a .prime k h);
-      rows = next-fits;
-    }
-
-    pub pool-served :
-        (l l′ : List ℕ) (g : Whole) → Tells (served (forest (poolOf w rest)) (requestsIn r (c .requests)) (length l)) l l′ g →
-        (z : Answer Segment) × Answers p (requestsIn r (c .requests)) (length l) z × Tells z l l′ g
-    pool-served l l′ g t = (served (forest (poolOf w rest)) (requestsIn r (c .requests)) (length l), (done tt, v, refl), t)
+  pub pool-served :
+      Verdict (poolIn w literals x c) [] (done tt) → (l l′ : List ℕ) (g : Whole) →
+      Tells (served (forest (poolOf w (rest w x r c a literals))) (requestsIn r (c .requests)) (length l)) l l′ g →
+      (z : Answer Segment) × Answers (poolIn w literals x c) (requestsIn r (c .requests)) (length l) z × Tells z l l′ g
+  pool-served v l l′ g t = (served (forest (poolOf w (rest w x r c a literals))) (requestsIn r (c .requests)) (length l), (done tt, v, refl), t)

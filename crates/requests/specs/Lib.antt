@@ -6,6 +6,7 @@ pub mod Last
 pub mod Placing
 pub mod Generating
 pub mod Whole
+pub mod Admitted
 pub mod Runs
 pub mod Reads
 pub mod Serving

@@ -65,7 +65,7 @@ unread-runs room h = record {
         rw (p, q)
 
 module _ {u : Tables} {x : Answer Input} {r : Reading} (a : ReadInto u r x) {c : Counts} (q : r ≡ was.Read c) where
-  read-is : done (inputIn u c) ≡ x
+  pub read-is : done (inputIn u c) ≡ x
   read-is = ap (held u) (sym q) ∙ a .answer
 
   pub whole-asked : WholeAsked (u .nodes) (u .expressions) (u .requests) c
@@ -74,11 +74,11 @@ module _ {u : Tables} {x : Answer Input} {r : Reading} (a : ReadInto u r x) {c :
       let g = held-ranged (a .given) u c (read-is ∙ a .read) in
       record { nodes = w .nodes; expressions = w .expressions; requests = w .requests; next = g .next; prime = g .prime }
 
-  pool-is : poolOf (inputIn u c) ≡ poolIn (u .nodes) (u .literals) (u .expressions) c
+  pub pool-is : poolOf (inputIn u c) ≡ poolIn (u .nodes) (u .literals) (u .expressions) c
   unfolding inputIn tabled
   pool-is = refl
 
-  requests-are : requestsOf (inputIn u c) ≡ requestsIn (u .requests) (c .requests)
+  pub requests-are : requestsOf (inputIn u c) ≡ requestsIn (u .requests) (c .requests)
   unfolding inputIn
   requests-are = map-first requestOf (requestIn (u .requests)) (c .requests)
 

@@ -2,7 +2,8 @@
 -- Assumes nothing.
 use mathlib.Core.Path.{refl}
 use mathlib.Core.List.{[]}
-use Rattle.requests.proofs.Wholes.{rest, judged-as, pool-refused, acyclic, fresh-asks, pool-served}
+use Rattle.requests.specs.Admitted.{rest, judged-as, acyclic, fresh-asks}
+use Rattle.requests.proofs.Wholes.{pool-refused, pool-served}
 use Rattle.requests.specs.declared.whole.Whole.the-variants as whole
 use borrow.Author.Needs.{needs}
 use Rattle.requests.proofs.whole.whole_run.Statement.{statement}

@@ -1,0 +1,6 @@
+-- The definitions that the contracts cite, and the theorems on them.
+pub mod Said
+pub mod Results
+pub mod Written
+pub mod Committing
+pub mod Serving

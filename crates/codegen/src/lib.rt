@@ -1,0 +1,5 @@
+// Generation on lent bytes: requests served into a context and its list, and builds.
+pub mod asked;
+pub mod commit;
+pub mod serve;
+pub mod store;
