@@ -46,26 +46,9 @@ use Rattle.context.specs.Zeros.{below-or}
 use Rattle.context.specs.Held.{allSteps as wordSteps, loaded-held, good-sound, Sound}
 use Rattle.codegen.specs.Said.{Said, said, adding}
 use Rattle.codegen.specs.Written.{raw-steps}
-use Rattle.codegen.specs.Committing.{noWords, CommitAsks, afterJobs}
-
--- ── tables that agree ────────────────────────────────────────────────────────
-module _ (t t′ : List ℕ) (n : ℕ) (same : (k : ℕ) → k < n → getD t′ k 0 ≡ getD t k 0) where
-  starts-same : (k : ℕ) → k ≤ n → startOf t′ k ≡ startOf t k
-  unfolding startOf
-  starts-same zero h = refl
-  starts-same (suc k) h = rw (starts-same k (omega arith), same k (omega arith))
-
-  -- over lists whose steps agree, too
-  pub blocks-same : (l l′ : List ℕ) → ((i : ℕ) → i < startOf t n → stepAt l′ (stepSize * i) ≡ stepAt l (stepSize * i)) → rawBlocks t′ l′ n ≡ rawBlocks t l n
-  blocks-same l l′ e = first-same (rawBlockAt t l) (rawBlockAt t′ l′) n at
-    where
-      at : (k : ℕ) → k < n → rawBlockAt t′ l′ k ≡ rawBlockAt t l k
-      at k h =
-          let m = stepsIn (getD t k 0) in
-          let g : startOf t k + m ≤ startOf t n = rw (← start-next t k) (start-le t (suc k) n h) in
-          let q : recordsFrom l′ (startOf t k) m ≡ recordsFrom l (startOf t k) m
-          = records-same l l′ (startOf t k) (startOf t k) m (λ i u. e (startOf t k + i) (omega arith)) in
-          rw (same k h, starts-same k (omega arith), q)
+use Rattle.codegen.specs.Committing.{CommitAsks, afterJobs}
+use Rattle.codegen.proofs.Loads.{blocks-same}
+use Rattle.codegen.proofs.Loads as loads
 
 -- the steps of a list with more after it
 pub longer-steps : (l z : List ℕ) (i : ℕ) → stepSize * (i + 1) ≤ length l → stepAt (l ++ z) (stepSize * i) ≡ stepAt l (stepSize * i)
@@ -132,31 +115,20 @@ module _ {w xs : List ℕ} {b : Rest} {js : List Job} {j s t x l : List ℕ} {n 
   abbrev cs : List Block
   cs = make G js T .blocks
 
+  few : b .expressionCount ≤ 512
+  few = a .jobs .world .few
+
   pub sound : Sound (marksIn x) t B at (b .expressionCount) (length l)
-  sound =
-      subst (λ (u : List ℕ). Sound (marksIn x) u B at (b .expressionCount) (length l)) (sym (a .loaded))
-      (good-sound x (marksIn x) (write noWords 0 (wordsIn x B)) B at T (b .expressionCount) (length l)
-      (loaded-held x noWords (b .expressionCount) (length l) (a .jobs .world .few) (length-replicate {A = ℕ} 1024 0) (a .good)) (a .good))
+  sound = loads.sound l few (a .good) (a .loaded)
 
   pub full : length t ≡ cells
-  full = ap length (a .loaded) ∙ write-length noWords 0 (wordsIn x B) ∙ length-replicate {A = ℕ} 1024 0
+  full = loads.full l few (a .good) (a .loaded)
 
-  words-loaded : (k : ℕ) → k < B → getD t k 0 ≡ getD (wordsIn x B) k 0
-  words-loaded k h =
-      ap (λ (u : List ℕ). getD u k 0) (a .loaded)
-      ∙ rw zero-add at (write-there noWords 0 (wordsIn x B) k (omega (arith, words-length x B, a .room, length-replicate {A = ℕ} 1024 0)) (omega (arith, words-length x B)))
-
-  start-is : (k : ℕ) → startOf t k ≡ wordSteps t k
-  unfolding startOf
-  start-is zero = refl
-  start-is (suc k) = rw (start-is k)
-
-  -- the blocks that stand end where the context's steps do
   pub start-at : startOf t B ≡ at
-  start-at = start-is B ∙ sound .total
+  start-at = loads.start-at l few (a .good) (a .loaded)
 
   pub said-blocks : said x l .blocks ≡ rawBlocks t l B
-  said-blocks = blocks-same t (wordsIn x B) B (λ k h. sym (words-loaded k h)) l l (λ i h. refl)
+  said-blocks = loads.said-blocks l few (a .good) (a .loaded)
 
   -- ── how many steps ─────────────────────────────────────────────────────────
   found : Each (Found G) js

@@ -4,3 +4,4 @@ pub mod Results
 pub mod Written
 pub mod Committing
 pub mod Serving
+pub mod Building

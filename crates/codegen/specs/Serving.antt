@@ -33,7 +33,7 @@ use Rattle.codegen.specs.declared.commit.Served.{Served}
 
 -- ── the answer ───────────────────────────────────────────────────────────────
 -- where b does not hold, a is refused as a malformed record; else P says what it is
-abbrev pub OrMalformed : Bool → Answer Said → Type 0 → Type 0
+abbrev pub OrMalformed : {A : Type 0} → Bool → Answer A → Type 0 → Type 0
 OrMalformed true a P = P
 OrMalformed false a P = a ≡ refused Refusal.malformed none
 

@@ -20,16 +20,17 @@ use Rattle.starkinfo_codegen.specs.Words.{nodeAt}
 use Rattle.starkinfo_codegen.specs.Emitting.{Rest, poolOf}
 use Rattle.requests.specs.Whole.{FreshAsks, WholeAsked, poolIn}
 
+-- what admission answers, by its case
+module _ (w x : List ℕ) (c : Counts) (literals : List ℕ) where
+  pub judged-as : {t : List ℕ} {d : Admission} → Admits (Tabling w literals x (c .nodes) (c .expressions)) t d → t ≡ [] → {u : admit.Verdict} → d .verdict ≡ u → Verdict (poolIn w literals x c) [] (verdictSays u)
+  judged-as {d = d} h e q = subst (λ z. Verdict (poolIn w literals x c) [] (verdictSays z)) q (subst (λ (t : List ℕ). Verdict (poolIn w literals x c) t (verdictSays (d .verdict))) e (h .judged))
+
 module _ (w x r : List ℕ) (c : Counts) (a : WholeAsked w x r c) (literals : List ℕ) where
   abbrev pub rest : Rest
   rest = record { literals = literals; expressions = x; nodeCount = c .nodes; expressionCount = c .expressions }
 
   abbrev pub p : Pool
   p = poolIn w literals x c
-
-  -- what admission answers, by its case
-  pub judged-as : {t : List ℕ} {d : Admission} → Admits (Tabling w literals x (c .nodes) (c .expressions)) t d → t ≡ [] → {u : admit.Verdict} → d .verdict ≡ u → Verdict p [] (verdictSays u)
-  judged-as {d = d} h e q = subst (λ z. Verdict p [] (verdictSays z)) q (subst (λ (t : List ℕ). Verdict p t (verdictSays (d .verdict))) e (h .judged))
 
   module _ (v : Verdict p [] (done tt)) where
     pub shaped : Shaped p × Acyclic (forest p)

@@ -47,31 +47,31 @@ enum-told-2 : tie.Need-enum-told-2
 enum-told-2 c = search needs
 
 serve-wanted-requires : tie.Need-serve-wanted-requires
-serve-wanted-requires c κs = let v = judged-as _ _ _ _ (c .before .before .before .before .before .before .before .before .before .before .before .before .before .pre) [] (c .before .before .before .before .admit .ensures []) refl (c .before .before .enum-told2 .given .1) in ((rest _ _ _ _ (c .before .before .before .before .before .before .before .before .before .before .before .before .before .pre) [], acyclic _ _ _ _ (c .before .before .before .before .before .before .before .before .before .before .before .before .before .pre) [] v, serve-asks _ _ _ _ (c .before .before .before .before .before .before .before .before .before .before .before .before .before .pre) _ (c .before .before .before .before .before .before .before .before .before .before .before .before .before .args .context .now) (c .before .before .before .before .before .before .before .before .before .before .before .before .before .args .list .now) (c .before .before .before .before .before .before .before .before .before .before .is-good .ensures) (not-false _ (c .before .before .before .before .before .before .before .before .before .if1 .left)) (c .before .before .before .before .before .before .before .is-good2 .ensures) (not-false _ (c .before .before .before .before .before .before .if2 .left)) [] v), result-good _ _ _ _ (c .before .before .before .before .before .before .before .before .before .before .before .before .before .pre) _ (c .before .before .before .before .before .before .before .before .before .before .before .before .before .args .context .now) (c .before .before .before .before .before .before .before .before .before .before .before .before .before .args .list .now) (c .before .before .before .before .before .before .before .before .before .before .is-good .ensures) (not-false _ (c .before .before .before .before .before .before .before .before .before .if1 .left)) (c .before .before .before .before .before .before .before .is-good2 .ensures) (not-false _ (c .before .before .before .before .before .before .if2 .left)))
+serve-wanted-requires c κs = let v = judged-as _ _ (c .before .before .before .before .before .before .before .before .before .before .before .before .before .args .c) [] (c .before .before .before .before .admit .ensures []) refl (c .before .before .enum-told2 .given .1) in ((rest _ _ _ _ (c .before .before .before .before .before .before .before .before .before .before .before .before .before .pre) [], acyclic _ _ _ _ (c .before .before .before .before .before .before .before .before .before .before .before .before .before .pre) [] v, serve-asks _ _ _ _ (c .before .before .before .before .before .before .before .before .before .before .before .before .before .pre) _ (c .before .before .before .before .before .before .before .before .before .before .before .before .before .args .context .now) (c .before .before .before .before .before .before .before .before .before .before .before .before .before .args .list .now) (c .before .before .before .before .before .before .before .before .before .before .is-good .ensures) (not-false _ (c .before .before .before .before .before .before .before .before .before .if1 .left)) (c .before .before .before .before .before .before .before .is-good2 .ensures) (not-false _ (c .before .before .before .before .before .before .if2 .left)) [] v), result-good _ _ _ _ (c .before .before .before .before .before .before .before .before .before .before .before .before .before .pre) _ (c .before .before .before .before .before .before .before .before .before .before .before .before .before .args .context .now) (c .before .before .before .before .before .before .before .before .before .before .before .before .before .args .list .now) (c .before .before .before .before .before .before .before .before .before .before .is-good .ensures) (not-false _ (c .before .before .before .before .before .before .before .before .before .if1 .left)) (c .before .before .before .before .before .before .before .is-good2 .ensures) (not-false _ (c .before .before .before .before .before .before .if2 .left)))
 
 same-length-2 : tie.Need-same-length-2
 same-length-2 c = search needs
 
 returns-3 : tie.Need-returns-3
-returns-3 c = λ ls. pool-refused _ _ _ _ (c .before .before .before .before .before .before .before .before .before .before .before .before .pre) _ (c .before .before .before .before .before .before .before .before .before .before .before .before .args .context .now) (c .before .before .before .before .before .before .before .before .before .before .before .before .args .list .now) (c .before .before .before .before .before .before .before .before .before .is-good .ensures) (not-false _ (c .before .before .before .before .before .before .before .before .if1 .left)) (c .before .before .before .before .before .before .is-good2 .ensures) (not-false _ (c .before .before .before .before .before .if2 .left)) ls (judged-as _ _ _ _ (c .before .before .before .before .before .before .before .before .before .before .before .before .pre) ls (c .before .before .before .admit .ensures ls) refl (c .before .verdict .given .1)) (served.ChildCount _) refl
+returns-3 c = λ ls. pool-refused _ _ _ _ (c .before .before .before .before .before .before .before .before .before .before .before .before .pre) _ (c .before .before .before .before .before .before .before .before .before .before .before .before .args .context .now) (c .before .before .before .before .before .before .before .before .before .before .before .before .args .list .now) (c .before .before .before .before .before .before .before .before .before .is-good .ensures) (not-false _ (c .before .before .before .before .before .before .before .before .if1 .left)) (c .before .before .before .before .before .before .is-good2 .ensures) (not-false _ (c .before .before .before .before .before .if2 .left)) ls (judged-as _ _ (c .before .before .before .before .before .before .before .before .before .before .before .before .args .c) ls (c .before .before .before .admit .ensures ls) refl (c .before .verdict .given .1)) (served.ChildCount _) refl
 
 same-length-3 : tie.Need-same-length-3
 same-length-3 c = search needs
 
 returns-4 : tie.Need-returns-4
-returns-4 c = λ ls. pool-refused _ _ _ _ (c .before .before .before .before .before .before .before .before .before .before .before .before .pre) _ (c .before .before .before .before .before .before .before .before .before .before .before .before .args .context .now) (c .before .before .before .before .before .before .before .before .before .before .before .before .args .list .now) (c .before .before .before .before .before .before .before .before .before .is-good .ensures) (not-false _ (c .before .before .before .before .before .before .before .before .if1 .left)) (c .before .before .before .before .before .before .is-good2 .ensures) (not-false _ (c .before .before .before .before .before .if2 .left)) ls (judged-as _ _ _ _ (c .before .before .before .before .before .before .before .before .before .before .before .before .pre) ls (c .before .before .before .admit .ensures ls) refl (c .before .verdict2 .given .1)) (served.NotThere _) refl
+returns-4 c = λ ls. pool-refused _ _ _ _ (c .before .before .before .before .before .before .before .before .before .before .before .before .pre) _ (c .before .before .before .before .before .before .before .before .before .before .before .before .args .context .now) (c .before .before .before .before .before .before .before .before .before .before .before .before .args .list .now) (c .before .before .before .before .before .before .before .before .before .is-good .ensures) (not-false _ (c .before .before .before .before .before .before .before .before .if1 .left)) (c .before .before .before .before .before .before .is-good2 .ensures) (not-false _ (c .before .before .before .before .before .if2 .left)) ls (judged-as _ _ (c .before .before .before .before .before .before .before .before .before .before .before .before .args .c) ls (c .before .before .before .admit .ensures ls) refl (c .before .verdict2 .given .1)) (served.NotThere _) refl
 
 same-length-4 : tie.Need-same-length-4
 same-length-4 c = search needs
 
 returns-5 : tie.Need-returns-5
-returns-5 c = λ ls. pool-refused _ _ _ _ (c .before .before .before .before .before .before .before .before .before .before .before .pre) _ (c .before .before .before .before .before .before .before .before .before .before .before .args .context .now) (c .before .before .before .before .before .before .before .before .before .before .before .args .list .now) (c .before .before .before .before .before .before .before .before .is-good .ensures) (not-false _ (c .before .before .before .before .before .before .before .if1 .left)) (c .before .before .before .before .before .is-good2 .ensures) (not-false _ (c .before .before .before .before .if2 .left)) ls (judged-as _ _ _ _ (c .before .before .before .before .before .before .before .before .before .before .before .pre) ls (c .before .before .admit .ensures ls) refl (c .enum-told .given .1)) served.Lost refl
+returns-5 c = λ ls. pool-refused _ _ _ _ (c .before .before .before .before .before .before .before .before .before .before .before .pre) _ (c .before .before .before .before .before .before .before .before .before .before .before .args .context .now) (c .before .before .before .before .before .before .before .before .before .before .before .args .list .now) (c .before .before .before .before .before .before .before .before .is-good .ensures) (not-false _ (c .before .before .before .before .before .before .before .if1 .left)) (c .before .before .before .before .before .is-good2 .ensures) (not-false _ (c .before .before .before .before .if2 .left)) ls (judged-as _ _ (c .before .before .before .before .before .before .before .before .before .before .before .args .c) ls (c .before .before .admit .ensures ls) refl (c .enum-told .given .1)) served.Lost refl
 
 same-length-5 : tie.Need-same-length-5
 same-length-5 c = search needs
 
 returns-6 : tie.Need-returns-6
-returns-6 c = λ ls. pool-refused _ _ _ _ (c .before .before .before .before .before .before .before .before .before .before .before .before .pre) _ (c .before .before .before .before .before .before .before .before .before .before .before .before .args .context .now) (c .before .before .before .before .before .before .before .before .before .before .before .before .args .list .now) (c .before .before .before .before .before .before .before .before .before .is-good .ensures) (not-false _ (c .before .before .before .before .before .before .before .before .if1 .left)) (c .before .before .before .before .before .before .is-good2 .ensures) (not-false _ (c .before .before .before .before .before .if2 .left)) ls (judged-as _ _ _ _ (c .before .before .before .before .before .before .before .before .before .before .before .before .pre) ls (c .before .before .before .admit .ensures ls) refl (c .before .verdict3 .given .1)) (served.Cycle _) refl
+returns-6 c = λ ls. pool-refused _ _ _ _ (c .before .before .before .before .before .before .before .before .before .before .before .before .pre) _ (c .before .before .before .before .before .before .before .before .before .before .before .before .args .context .now) (c .before .before .before .before .before .before .before .before .before .before .before .before .args .list .now) (c .before .before .before .before .before .before .before .before .before .is-good .ensures) (not-false _ (c .before .before .before .before .before .before .before .before .if1 .left)) (c .before .before .before .before .before .before .is-good2 .ensures) (not-false _ (c .before .before .before .before .before .if2 .left)) ls (judged-as _ _ (c .before .before .before .before .before .before .before .before .before .before .before .before .args .c) ls (c .before .before .before .admit .ensures ls) refl (c .before .verdict3 .given .1)) (served.Cycle _) refl
 
 same-length-6 : tie.Need-same-length-6
 same-length-6 c = search needs
@@ -80,7 +80,7 @@ same-length-7 : tie.Need-same-length-7
 same-length-7 c = search needs
 
 returns-7 : tie.Need-returns-7
-returns-7 c = λ ls. let v = judged-as _ _ _ _ (c .before .before .before .before .before .before .before .before .before .before .before .before .before .before .before .before .before .before .pre) ls (c .before .before .before .before .before .before .before .before .before .admit .ensures ls) refl (c .before .before .before .before .before .before .before .enum-told2 .given .1) in judged-served _ _ _ _ (c .before .before .before .before .before .before .before .before .before .before .before .before .before .before .before .before .before .before .pre) _ (c .before .before .before .before .before .before .before .before .before .before .before .before .before .before .before .before .before .before .args .context .now) (c .before .before .before .before .before .before .before .before .before .before .before .before .before .before .before .before .before .before .args .list .now) (c .before .before .before .before .before .before .before .before .before .before .before .before .before .before .before .is-good .ensures) (not-false _ (c .before .before .before .before .before .before .before .before .before .before .before .before .before .before .if1 .left)) (c .before .before .before .before .before .before .before .before .before .before .before .before .is-good2 .ensures) (not-false _ (c .before .before .before .before .before .before .before .before .before .before .before .if2 .left)) ls v (c .before .before .before .before .serve-wanted .ensures (rest _ _ _ _ (c .before .before .before .before .before .before .before .before .before .before .before .before .before .before .before .before .before .before .pre) ls) (acyclic _ _ _ _ (c .before .before .before .before .before .before .before .before .before .before .before .before .before .before .before .before .before .before .pre) ls v) (serve-asks _ _ _ _ (c .before .before .before .before .before .before .before .before .before .before .before .before .before .before .before .before .before .before .pre) _ (c .before .before .before .before .before .before .before .before .before .before .before .before .before .before .before .before .before .before .args .context .now) (c .before .before .before .before .before .before .before .before .before .before .before .before .before .before .before .before .before .before .args .list .now) (c .before .before .before .before .before .before .before .before .before .before .before .before .before .before .before .is-good .ensures) (not-false _ (c .before .before .before .before .before .before .before .before .before .before .before .before .before .before .if1 .left)) (c .before .before .before .before .before .before .before .before .before .before .before .before .is-good2 .ensures) (not-false _ (c .before .before .before .before .before .before .before .before .before .before .before .if2 .left)) ls v) (result-good _ _ _ _ (c .before .before .before .before .before .before .before .before .before .before .before .before .before .before .before .before .before .before .pre) _ (c .before .before .before .before .before .before .before .before .before .before .before .before .before .before .before .before .before .before .args .context .now) (c .before .before .before .before .before .before .before .before .before .before .before .before .before .before .before .before .before .before .args .list .now) (c .before .before .before .before .before .before .before .before .before .before .before .before .before .before .before .is-good .ensures) (not-false _ (c .before .before .before .before .before .before .before .before .before .before .before .before .before .before .if1 .left)) (c .before .before .before .before .before .before .before .before .before .before .before .before .is-good2 .ensures) (not-false _ (c .before .before .before .before .before .before .before .before .before .before .before .if2 .left))))
+returns-7 c = λ ls. let v = judged-as _ _ (c .before .before .before .before .before .before .before .before .before .before .before .before .before .before .before .before .before .before .args .c) ls (c .before .before .before .before .before .before .before .before .before .admit .ensures ls) refl (c .before .before .before .before .before .before .before .enum-told2 .given .1) in judged-served _ _ _ _ (c .before .before .before .before .before .before .before .before .before .before .before .before .before .before .before .before .before .before .pre) _ (c .before .before .before .before .before .before .before .before .before .before .before .before .before .before .before .before .before .before .args .context .now) (c .before .before .before .before .before .before .before .before .before .before .before .before .before .before .before .before .before .before .args .list .now) (c .before .before .before .before .before .before .before .before .before .before .before .before .before .before .before .is-good .ensures) (not-false _ (c .before .before .before .before .before .before .before .before .before .before .before .before .before .before .if1 .left)) (c .before .before .before .before .before .before .before .before .before .before .before .before .is-good2 .ensures) (not-false _ (c .before .before .before .before .before .before .before .before .before .before .before .if2 .left)) ls v (c .before .before .before .before .serve-wanted .ensures (rest _ _ _ _ (c .before .before .before .before .before .before .before .before .before .before .before .before .before .before .before .before .before .before .pre) ls) (acyclic _ _ _ _ (c .before .before .before .before .before .before .before .before .before .before .before .before .before .before .before .before .before .before .pre) ls v) (serve-asks _ _ _ _ (c .before .before .before .before .before .before .before .before .before .before .before .before .before .before .before .before .before .before .pre) _ (c .before .before .before .before .before .before .before .before .before .before .before .before .before .before .before .before .before .before .args .context .now) (c .before .before .before .before .before .before .before .before .before .before .before .before .before .before .before .before .before .before .args .list .now) (c .before .before .before .before .before .before .before .before .before .before .before .before .before .before .before .is-good .ensures) (not-false _ (c .before .before .before .before .before .before .before .before .before .before .before .before .before .before .if1 .left)) (c .before .before .before .before .before .before .before .before .before .before .before .before .is-good2 .ensures) (not-false _ (c .before .before .before .before .before .before .before .before .before .before .before .if2 .left)) ls v) (result-good _ _ _ _ (c .before .before .before .before .before .before .before .before .before .before .before .before .before .before .before .before .before .before .pre) _ (c .before .before .before .before .before .before .before .before .before .before .before .before .before .before .before .before .before .before .args .context .now) (c .before .before .before .before .before .before .before .before .before .before .before .before .before .before .before .before .before .before .args .list .now) (c .before .before .before .before .before .before .before .before .before .before .before .before .before .before .before .is-good .ensures) (not-false _ (c .before .before .before .before .before .before .before .before .before .before .before .before .before .before .if1 .left)) (c .before .before .before .before .before .before .before .before .before .before .before .before .is-good2 .ensures) (not-false _ (c .before .before .before .before .before .before .before .before .before .before .before .if2 .left))))
 
 pub serve-read-spec : {M : Type 1} → statement M
 serve-read-spec =
