@@ -1,0 +1,139 @@
+// An expression as the circuit wrote it: not fused, and in brackets only what would be read as another tree without them. A muladd, addc or mulc node is
+// written as the sum or product that it is.
+use crate::literal::put_literal;
+use crate::reference::put_reference;
+use crate::sign::put_sign;
+use crate::text::put_text;
+use frames::count::NODE_LIMIT;
+use frames::tables::NODE_WORDS;
+use kinds::kind::Kind;
+use starkinfo_codegen::source::leaf_reference;
+use starkinfo_codegen::words::first_child;
+use starkinfo_codegen::words::kind_of;
+use starkinfo_codegen::words::second_child;
+use starkinfo_codegen::words::third_child;
+ghost use mathlib.Core.Path.{_≡_};
+ghost use Prim.Native.Nat.{_<_};
+ghost use Rattle.readable.specs.Pages.{Page};
+ghost use Rattle.readable.specs.Binding.{binding, firstPlace, secondPlace};
+ghost use Rattle.readable.specs.Trees.{TreeAsked, OperationAsked};
+
+// How tightly the parts of an operation bind, the least first; a leaf and what is in brackets are whole.
+pub const SUM: u8 = 0;
+
+const PRODUCT: u8 = 1;
+
+const WHOLE: u8 = 2;
+
+// A leaf's prime is its own next.
+const THIS_ROW: u8 = 0;
+
+fn binding_of(kind: u8) -> u8
+    ensures { λ r. ⌜ r ≡ binding kind ⌝ }
+{
+    match kind {
+        Kind::MUL => PRODUCT,
+        Kind::MULC => PRODUCT,
+        Kind::ADD..=Kind::ADDC => SUM,
+        _ => WHOLE,
+    }
+}
+
+// The least binding that an operand may have without brackets: signs of one binding are read from left to right.
+fn first_place(kind: u8) -> u8
+    ensures { λ r. ⌜ r ≡ firstPlace kind ⌝ }
+{
+    match kind {
+        Kind::MULADD => PRODUCT,
+        _ => binding_of(kind),
+    }
+}
+
+fn second_place(kind: u8) -> u8
+    ensures { λ r. ⌜ r ≡ secondPlace kind ⌝ }
+{
+    match kind {
+        Kind::MUL..=Kind::MULADD => WHOLE,
+        _ => PRODUCT,
+    }
+}
+
+// The tree at a node, in brackets where it binds less than its place asks. A child is earlier than its parent (admission, 3), whose number is `below`:
+// of any other nothing is shown.
+pub fn put_tree(
+    nodes: &[u64; NODE_WORDS],
+    literals: &[u64; NODE_LIMIT],
+    page: &mut [u8],
+    used: usize,
+    below: u16,
+    i: u16,
+    place: u8,
+) -> usize
+    requires { ⌜ TreeAsked (now page) used below ⌝ }
+    ensures { λ r. ⌜ Page (now (page .exit)) r ⌝ }
+{
+    if below <= i {
+        return used;
+    }
+    if place <= binding_of(kind_of(nodes, i)) {
+        return put_operation(nodes, literals, page, used, i);
+    }
+    let open = put_text(page, used, b"(");
+    let inside = put_operation(nodes, literals, page, open, i);
+    put_text(page, inside, b")")
+}
+
+fn put_operation(
+    nodes: &[u64; NODE_WORDS],
+    literals: &[u64; NODE_LIMIT],
+    page: &mut [u8],
+    used: usize,
+    i: u16,
+) -> usize
+    requires { ⌜ OperationAsked (now page) used i ⌝ }
+    ensures { λ r. ⌜ Page (now (page .exit)) r ⌝ }
+{
+    let kind = kind_of(nodes, i);
+    if Kind::is_leaf(kind) {
+        return put_reference(
+            nodes,
+            literals,
+            page,
+            used,
+            leaf_reference(nodes, THIS_ROW, i),
+        );
+    }
+    let a = first_child(nodes, i);
+    if kind == Kind::NEG {
+        let open = put_text(page, used, b"-(");
+        let inside = put_tree(nodes, literals, page, open, i, a, SUM);
+        return put_text(page, inside, b")");
+    }
+    let first = put_tree(nodes, literals, page, used, i, a, first_place(kind));
+    let sign = put_sign(page, first, kind);
+    if Kind::carries_literal(kind) {
+        return put_literal(nodes, literals, page, sign, i);
+    }
+    let second = put_tree(
+        nodes,
+        literals,
+        page,
+        sign,
+        i,
+        second_child(nodes, i),
+        second_place(kind),
+    );
+    if kind != Kind::MULADD {
+        return second;
+    }
+    let plus = put_sign(page, second, Kind::ADD);
+    put_tree(
+        nodes,
+        literals,
+        page,
+        plus,
+        i,
+        third_child(nodes, i),
+        PRODUCT,
+    )
+}
