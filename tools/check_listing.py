@@ -29,7 +29,7 @@ X_NAMES = {X1: "xDivXSubXi", X2: "xDivXSubWXi", X: "x"}
 
 OPENING = (
     "Steps run from the top: step 1 is the first, and a tmp or exp is written above every step that reads it.\n"
-    "Above each block is its expression as the circuit wrote it. A prime means the next row, behind brackets for all that is in them.\n"
+    "Above each block is its expression as the circuit wrote it. A prime (') means the next row; behind brackets, for all inside them.\n"
 )
 MEANINGS = {
     1: "a line is no frame, or a frame is malformed or out of order (an unknown kind, a prime, muladd or next byte other than 0 and 1, "

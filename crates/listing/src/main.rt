@@ -1,6 +1,7 @@
 // The list of the program `steps` as a person reads it: the same frames on standard input, and on standard output numbered steps in infix, each block
 // below its expression; or the refusal as a sentence. A viewer: what it shows is the proved list, how it shows it is held to stored outputs.
 mod blame;
+mod print;
 
 use blame::blame_of;
 use console::page::flush;
@@ -17,9 +18,10 @@ use kinds::refusal::FULL;
 use kinds::refusal::MALFORMED;
 use kinds::refusal::NONE;
 use kinds::step::STEP_SIZE;
-use readable::list::put_blocks;
-use readable::list::put_opening;
-use readable::list::put_totals;
+use print::PAGE_SIZE;
+use print::print_blocks;
+use readable::around::put_opening;
+use readable::around::put_totals;
 use readable::refusal::put_refusal;
 use transcript::conclude::conclude;
 use transcript::lines::Shown;
@@ -32,6 +34,9 @@ ghost use Rattle.transcript.specs.Lines.{LineAsked};
 // Document 01's room, which always suffices.
 const LIST_SIZE: usize = 8192 * STEP_SIZE;
 
+// More than the longest sentence.
+const SENTENCE_ROOM: usize = 512;
+
 fn print_list(
     nodes: &[u64; NODE_WORDS],
     literals: &[u64; NODE_LIMIT],
@@ -41,9 +46,9 @@ fn print_list(
 )
     requires { ⌜ LineAsked s (length (now list)) ⌝ }
 {
-    let mut page = io::large_buffer();
+    let mut page = [0u8; PAGE_SIZE];
     let opened = put_opening(&mut page, 0);
-    let shown = put_blocks(
+    let shown = print_blocks(
         nodes,
         literals,
         expressions,
@@ -57,7 +62,7 @@ fn print_list(
 }
 
 fn print_refusal(number: u8, blame: Blame) {
-    let mut page = io::large_buffer();
+    let mut page = [0u8; SENTENCE_ROOM];
     let used = put_refusal(&mut page, 0, number, blame);
     flush(&page, used);
 }

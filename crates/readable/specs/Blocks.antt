@@ -1,12 +1,10 @@
--- Where a block ends, and what writing steps asks for.
+-- Where a block ends.
 -- Assumes nothing: these are definitions.
 use Prim.Native.Nat.{ℕ, _+_, _*_, _≤_, _<_}
 use mathlib.Core.Path.{_≡_}
 use mathlib.Core.List.{List}
-use mathlib.Core.Logic.{_⊎_}
 use Rattle.kinds.specs.KindBytes as kind
 use Rattle.kinds.specs.Steps.{stepSize, stepAt}
-use Rattle.readable.specs.Pages.{Page}
 
 -- the kind of the cell that step k writes
 abbrev pub writes : List ℕ → ℕ → ℕ
@@ -22,7 +20,3 @@ pub record EndGiven (list : List ℕ) (from steps r : ℕ) : Type 0 where
   pub within : r < steps
   pub none-before : (k : ℕ) → k < r → from ≤ k → writes list k ≡ kind.exp → ⊥
   pub writes-exp : r + 1 < steps → writes list r ≡ kind.exp
-
-pub record StepsAsked (size : ℕ) (page : List ℕ) (used steps : ℕ) : Type 0 where
-  pub room : Page page used
-  pub there : stepSize * steps ≤ size

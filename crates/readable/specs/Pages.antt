@@ -1,13 +1,8 @@
--- A page of output, and how much of it is used.
+-- Text put on a page, after what is used of it.
 -- Assumes nothing: these are definitions.
 use Prim.Native.Nat.{ℕ, _≤_}
-use mathlib.Core.Path.{_≡_}
-use mathlib.Core.List.{List}
-use lib.ListN.{length}
 
-abbrev pub pageSize : ℕ
-pageSize = 65536
-
-pub record Page (page : List ℕ) (used : ℕ) : Type 0 where
-  pub size : pageSize ≡ length page
-  pub within : used ≤ pageSize
+-- where a text ends that is put after the first `used` bytes of a page of this size
+pub record Puts (used r size : ℕ) : Type 0 where
+  pub after : used ≤ r
+  pub within : r ≤ size

@@ -1,5 +1,4 @@
 // A block: the steps up to the one that writes the cell of an expression, below that expression as the circuit wrote it.
-use crate::step::put_step;
 use crate::text::put_decimal;
 use crate::text::put_text;
 use crate::tree::SUM;
@@ -12,9 +11,10 @@ use kinds::kind::Kind;
 use kinds::reference::Reference;
 use kinds::step::nth_step;
 use starkinfo_codegen::words;
+ghost use Prim.Native.Nat.{_≤_};
 ghost use lib.ListN.{length};
-ghost use Rattle.readable.specs.Pages.{Page};
-ghost use Rattle.readable.specs.Blocks.{EndAsked, EndGiven, StepsAsked};
+ghost use Rattle.readable.specs.Pages.{Puts};
+ghost use Rattle.readable.specs.Blocks.{EndAsked, EndGiven};
 
 // The last step of the block that begins at step `from`: the first from there on that writes an exp.
 pub fn block_end(list: &[u8], from: usize, steps: usize) -> usize
@@ -41,8 +41,8 @@ fn put_expression(
     used: usize,
     e: u16,
 ) -> usize
-    requires { ⌜ Page (now page) used ⌝ }
-    ensures { λ r. ⌜ Page (now (page .exit)) r ⌝ }
+    requires { ⌜ used ≤ length (now page) ⌝ }
+    ensures { λ r. ⌜ Puts used r (length (now (page .exit))) ⌝ }
 {
     let n = e as usize;
     if EXPRESSION_LIMIT <= n {
@@ -61,8 +61,8 @@ pub fn put_head(
     used: usize,
     cell: Reference,
 ) -> usize
-    requires { ⌜ Page (now page) used ⌝ }
-    ensures { λ r. ⌜ Page (now (page .exit)) r ⌝ }
+    requires { ⌜ used ≤ length (now page) ⌝ }
+    ensures { λ r. ⌜ Puts used r (length (now (page .exit))) ⌝ }
 {
     let headed = put_text(page, used, b"\nexpression ");
     let numbered = put_decimal(page, headed, cell.id as u64);
@@ -74,26 +74,4 @@ pub fn put_head(
     let row = put_text(page, numbered, b", next row: (");
     let written = put_expression(nodes, literals, expressions, page, row, cell.id);
     put_text(page, written, b")'\n")
-}
-
-// The steps from one up to another, numbered from 1.
-pub fn put_steps(
-    nodes: &[u64; NODE_WORDS],
-    literals: &[u64; NODE_LIMIT],
-    list: &[u8],
-    page: &mut [u8],
-    used: usize,
-    from: usize,
-    end: usize,
-) -> usize
-    requires { ⌜ StepsAsked (length (now list)) (now page) used end ⌝ }
-    ensures { λ r. ⌜ Page (now (page .exit)) r ⌝ }
-{
-    let mut at = used;
-    let mut k = from;
-    while k < end {
-        at = put_step(nodes, literals, page, at, k + 1, nth_step(list, k));
-        k += 1;
-    }
-    at
 }

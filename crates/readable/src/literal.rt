@@ -9,7 +9,9 @@ use kinds::kind::Kind;
 use kinds::literal::Literal;
 ghost use mathlib.Core.Path.{_≡_};
 ghost use Rattle.output.specs.Records.{litOf, literalIn};
-ghost use Rattle.readable.specs.Pages.{Page};
+ghost use Prim.Native.Nat.{_≤_};
+ghost use lib.ListN.{length};
+ghost use Rattle.readable.specs.Pages.{Puts};
 
 const ZERO: Literal = Literal {
     negative: false,
@@ -40,8 +42,8 @@ pub fn put_literal(
     used: usize,
     n: u16,
 ) -> usize
-    requires { ⌜ Page (now page) used ⌝ }
-    ensures { λ r. ⌜ Page (now (page .exit)) r ⌝ }
+    requires { ⌜ used ≤ length (now page) ⌝ }
+    ensures { λ r. ⌜ Puts used r (length (now (page .exit))) ⌝ }
 {
     let l = literal_of(nodes, literals, n as usize);
     if l.negative {

@@ -6,12 +6,14 @@ use frames::count::NODE_LIMIT;
 use frames::tables::NODE_WORDS;
 use kinds::kind::Kind;
 use kinds::reference::Reference;
-ghost use Rattle.readable.specs.Pages.{Page};
+ghost use Prim.Native.Nat.{_≤_};
+ghost use lib.ListN.{length};
+ghost use Rattle.readable.specs.Pages.{Puts};
 
 // The kinds that stand in a list before it is fixed.
 fn put_kind(page: &mut [u8], used: usize, kind: u8) -> usize
-    requires { ⌜ Page (now page) used ⌝ }
-    ensures { λ r. ⌜ Page (now (page .exit)) r ⌝ }
+    requires { ⌜ used ≤ length (now page) ⌝ }
+    ensures { λ r. ⌜ Puts used r (length (now (page .exit))) ⌝ }
 {
     match kind {
         Kind::TMP => put_text(page, used, b"tmp"),
@@ -30,8 +32,8 @@ fn put_kind(page: &mut [u8], used: usize, kind: u8) -> usize
 
 // There is one of each x kind.
 fn put_id(page: &mut [u8], used: usize, r: Reference) -> usize
-    requires { ⌜ Page (now page) used ⌝ }
-    ensures { λ e. ⌜ Page (now (page .exit)) e ⌝ }
+    requires { ⌜ used ≤ length (now page) ⌝ }
+    ensures { λ e. ⌜ Puts used e (length (now (page .exit))) ⌝ }
 {
     match r.kind {
         Kind::X_DIV_X_SUB_XI..=Kind::X => used,
@@ -46,8 +48,8 @@ pub fn put_reference(
     used: usize,
     r: Reference,
 ) -> usize
-    requires { ⌜ Page (now page) used ⌝ }
-    ensures { λ e. ⌜ Page (now (page .exit)) e ⌝ }
+    requires { ⌜ used ≤ length (now page) ⌝ }
+    ensures { λ e. ⌜ Puts used e (length (now (page .exit))) ⌝ }
 {
     if r.kind == Kind::NUMBER {
         return put_literal(nodes, literals, page, used, r.extra);

@@ -7,12 +7,14 @@ use kinds::refusal::CYCLE;
 use kinds::refusal::DOUBLE_PRIME;
 use kinds::refusal::MALFORMED;
 use kinds::refusal::NOT_THERE;
-ghost use Rattle.readable.specs.Pages.{Page};
+ghost use Prim.Native.Nat.{_≤_};
+ghost use lib.ListN.{length};
+ghost use Rattle.readable.specs.Pages.{Puts};
 
 // Of a whole run's refusals; the last is that something is too large.
 fn put_meaning(page: &mut [u8], used: usize, number: u8) -> usize
-    requires { ⌜ Page (now page) used ⌝ }
-    ensures { λ r. ⌜ Page (now (page .exit)) r ⌝ }
+    requires { ⌜ used ≤ length (now page) ⌝ }
+    ensures { λ r. ⌜ Puts used r (length (now (page .exit))) ⌝ }
 {
     match number {
         MALFORMED => put_text(
@@ -45,8 +47,8 @@ fn put_meaning(page: &mut [u8], used: usize, number: u8) -> usize
 }
 
 fn put_blame(page: &mut [u8], used: usize, blame: Blame) -> usize
-    requires { ⌜ Page (now page) used ⌝ }
-    ensures { λ r. ⌜ Page (now (page .exit)) r ⌝ }
+    requires { ⌜ used ≤ length (now page) ⌝ }
+    ensures { λ r. ⌜ Puts used r (length (now (page .exit))) ⌝ }
 {
     match blame {
         Blame::Nothing => used,
@@ -59,8 +61,8 @@ fn put_blame(page: &mut [u8], used: usize, blame: Blame) -> usize
 }
 
 pub fn put_refusal(page: &mut [u8], used: usize, number: u8, blame: Blame) -> usize
-    requires { ⌜ Page (now page) used ⌝ }
-    ensures { λ r. ⌜ Page (now (page .exit)) r ⌝ }
+    requires { ⌜ used ≤ length (now page) ⌝ }
+    ensures { λ r. ⌜ Puts used r (length (now (page .exit))) ⌝ }
 {
     let open = put_text(page, used, b"Refused (");
     let numbered = put_decimal(page, open, number as u64);

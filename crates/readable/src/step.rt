@@ -7,7 +7,9 @@ use frames::count::NODE_LIMIT;
 use frames::tables::NODE_WORDS;
 use kinds::step::Step;
 use kinds::step_op::StepOp;
-ghost use Rattle.readable.specs.Pages.{Page};
+ghost use Prim.Native.Nat.{_≤_};
+ghost use lib.ListN.{length};
+ghost use Rattle.readable.specs.Pages.{Puts};
 
 // What a step computes.
 fn put_value(
@@ -17,8 +19,8 @@ fn put_value(
     used: usize,
     s: Step,
 ) -> usize
-    requires { ⌜ Page (now page) used ⌝ }
-    ensures { λ r. ⌜ Page (now (page .exit)) r ⌝ }
+    requires { ⌜ used ≤ length (now page) ⌝ }
+    ensures { λ r. ⌜ Puts used r (length (now (page .exit))) ⌝ }
 {
     let first = put_reference(nodes, literals, page, used, s.s0);
     if s.op == StepOp::COPY {
@@ -42,8 +44,8 @@ pub fn put_step(
     number: usize,
     s: Step,
 ) -> usize
-    requires { ⌜ Page (now page) used ⌝ }
-    ensures { λ r. ⌜ Page (now (page .exit)) r ⌝ }
+    requires { ⌜ used ≤ length (now page) ⌝ }
+    ensures { λ r. ⌜ Puts used r (length (now (page .exit))) ⌝ }
 {
     let numbered = put_decimal(page, used, number as u64);
     let colon = put_text(page, numbered, b": ");

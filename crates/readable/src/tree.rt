@@ -14,7 +14,8 @@ use starkinfo_codegen::words::second_child;
 use starkinfo_codegen::words::third_child;
 ghost use mathlib.Core.Path.{_≡_};
 ghost use Prim.Native.Nat.{_<_};
-ghost use Rattle.readable.specs.Pages.{Page};
+ghost use lib.ListN.{length};
+ghost use Rattle.readable.specs.Pages.{Puts};
 ghost use Rattle.readable.specs.Binding.{binding, firstPlace, secondPlace};
 ghost use Rattle.readable.specs.Trees.{TreeAsked, OperationAsked};
 
@@ -69,8 +70,8 @@ pub fn put_tree(
     i: u16,
     place: u8,
 ) -> usize
-    requires { ⌜ TreeAsked (now page) used below ⌝ }
-    ensures { λ r. ⌜ Page (now (page .exit)) r ⌝ }
+    requires { ⌜ TreeAsked (length (now page)) used below ⌝ }
+    ensures { λ r. ⌜ Puts used r (length (now (page .exit))) ⌝ }
 {
     if below <= i {
         return used;
@@ -90,8 +91,8 @@ fn put_operation(
     used: usize,
     i: u16,
 ) -> usize
-    requires { ⌜ OperationAsked (now page) used i ⌝ }
-    ensures { λ r. ⌜ Page (now (page .exit)) r ⌝ }
+    requires { ⌜ OperationAsked (length (now page)) used i ⌝ }
+    ensures { λ r. ⌜ Puts used r (length (now (page .exit))) ⌝ }
 {
     let kind = kind_of(nodes, i);
     if Kind::is_leaf(kind) {

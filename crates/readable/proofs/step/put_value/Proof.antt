@@ -33,10 +33,10 @@ put-reference-requires-3 : tie.Need-put-reference-requires-3
 put-reference-requires-3 c κs = search needs
 
 same-length-3 : tie.Need-same-length-3
-same-length-3 c = omega (arith, c .before .before .before .before .before .before .before .before .before .before .before .before .before .before .before .before .before .before .before .before .before .before .before .before .before .pre .size)
+same-length-3 c = omega (arith, c .before .before .before .before .before .before .before .before .before .before .before .before .before .before .before .before .before .before .before .before .before .before .put-reference .kept .1 .1 .0, c .before .before .before .before .before .before .before .before .before .before .before .before .before .before .before .before .put-sign .kept .0, c .before .before .before .before .before .before .before .before .before .before .before .before .put-reference2 .kept .1 .1 .0, c .before .before .before .before .before .before .put-sign2 .kept .0, c .before .before .put-reference3 .kept .1 .1 .0)
 
 returns-3 : tie.Need-returns-3
-returns-3 c = search needs
+returns-3 c = record { after = omega (arith, c .before .before .before .before .before .before .before .before .before .before .before .before .before .before .before .before .before .before .before .before .before .before .put-reference .ensures .after, c .before .before .before .before .before .before .before .before .before .before .before .before .before .before .before .before .put-sign .ensures .after, c .before .before .before .before .before .before .before .before .before .before .before .before .put-reference2 .ensures .after, c .before .before .before .before .before .before .put-sign2 .ensures .after, c .before .before .put-reference3 .ensures .after); within = c .before .before .put-reference3 .ensures .within }
 
 pub put-value-spec : {M : Type 1} → statement M
 put-value-spec =

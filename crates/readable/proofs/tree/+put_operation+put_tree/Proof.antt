@@ -176,7 +176,7 @@ put-operation-third-child-requires : (t : ℕ) → put-operation-lts.Need-third-
 put-operation-third-child-requires t c κs = c .before .before .before .before .before .before .before .before .before .before .before .before .before .before .before .before .before .before .before .before .before .before .before .before .before .before .before .before .before .pre .1 .node
 
 put-operation-put-tree-requires-4 : (t : ℕ) → put-operation-lts.Need-put-tree-requires-4 (put-operation-claims t) (put-operation-at t) put-operation.Post
-put-operation-put-tree-requires-4 t c κs = (omega (arith, c .before .before .before .before .before .before .before .before .before .before .before .before .before .before .before .before .before .before .before .before .before .before .before .before .before .before .before .before .before .before .pre .0), record { room = search needs; nodes = omega (arith, c .before .before .before .before .before .before .before .before .before .before .before .before .before .before .before .before .before .before .before .before .before .before .before .before .before .before .before .before .before .before .pre .1 .node) })
+put-operation-put-tree-requires-4 t c κs = (omega (arith, c .before .before .before .before .before .before .before .before .before .before .before .before .before .before .before .before .before .before .before .before .before .before .before .before .before .before .before .before .before .before .pre .0), record { room = c .before .before .before .before .put-sign2 .ensures .within; nodes = omega (arith, c .before .before .before .before .before .before .before .before .before .before .before .before .before .before .before .before .before .before .before .before .before .before .before .before .before .before .before .before .before .before .pre .1 .node) })
 
 put-operation-same-length-5 : (t : ℕ) → put-operation-lts.Need-same-length-5 (put-operation-claims t) (put-operation-at t) put-operation.Post
 put-operation-same-length-5 t c = search needs

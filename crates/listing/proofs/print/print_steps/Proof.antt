@@ -1,20 +1,24 @@
--- `readable::block::put_steps` is safe, and what it puts fits the page.
+-- `listing::print::print_steps` is safe: each step that it shows stands in the list. The measure is what is left of them.
 -- Assumes nothing.
 use borrow.Author.Needs.{needs}
-use Prim.Native.Nat.{_-_}
+use Prim.Native.Nat.{_-_, _≤_}
+use mathlib.Core.Path.{_≡_}
+use lib.ListN.{length}
 use native.Mathlib.Omega.{arith}
-use Rattle.readable.specs.Pages.{Page}
-use Rattle.readable.proofs.block.put_steps.Statement.{statement}
-use Rattle.readable.proofs.block.put_steps.Tie as tie
+use Rattle.listing.proofs.print.print_steps.Statement.{statement}
+use Rattle.listing.proofs.print.print_steps.Tie as tie
 
 abbrev Inv-loop : tie.InvT-loop
-Inv-loop nodes literals list page₀ used from end at₀ k₀ page at k = Page page at
+Inv-loop nodes literals list page₀ used from end at₀ k₀ page at k = (at ≤ length page) × (length page ≡ length page₀)
 
 abbrev μ-loop : tie.MeasureT-loop
 μ-loop nodes literals list page₀ used from end at₀ k₀ page at k = end - k
 
 loop-holds : tie.Need-loop-holds Inv-loop μ-loop
 loop-holds c = search needs
+
+make-room-requires : tie.Need-make-room-requires Inv-loop μ-loop
+make-room-requires c κs = search needs
 
 add-put-step : tie.Need-add-put-step Inv-loop μ-loop
 add-put-step c = search needs
@@ -40,13 +44,14 @@ same-length c = search needs
 returns : tie.Need-returns Inv-loop μ-loop
 returns c = search needs
 
-pub put-steps-spec : {M : Type 1} → statement M
-put-steps-spec =
+pub print-steps-spec : {M : Type 1} → statement M
+print-steps-spec =
     tie.close
     (tie.spec
     Inv-loop
     μ-loop
     loop-holds
+    make-room-requires
     add-put-step
     nth-step-requires
     put-step-requires

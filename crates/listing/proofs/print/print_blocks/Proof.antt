@@ -1,14 +1,15 @@
--- `readable::list::put_blocks` is safe, and what it puts fits the page. The measure is what is left of the steps.
+-- `listing::print::print_blocks` is safe: each block that it shows stands in the list. The measure is what is left of the steps.
 -- Assumes nothing.
 use borrow.Author.Needs.{needs}
-use Prim.Native.Nat.{_-_}
+use Prim.Native.Nat.{_-_, _≤_}
+use mathlib.Core.Path.{_≡_}
+use lib.ListN.{length}
 use native.Mathlib.Omega.{arith}
-use Rattle.readable.specs.Pages.{Page}
-use Rattle.readable.proofs.list.put_blocks.Statement.{statement}
-use Rattle.readable.proofs.list.put_blocks.Tie as tie
+use Rattle.listing.proofs.print.print_blocks.Statement.{statement}
+use Rattle.listing.proofs.print.print_blocks.Tie as tie
 
 abbrev Inv-loop : tie.InvT-loop
-Inv-loop nodes literals expressions list page₀ used steps at₀ from₀ page at from = Page page at
+Inv-loop nodes literals expressions list page₀ used steps at₀ from₀ page at from = (at ≤ length page) × (length page ≡ length page₀)
 
 abbrev μ-loop : tie.MeasureT-loop
 μ-loop nodes literals expressions list page₀ used steps at₀ from₀ page at from = steps - from
@@ -22,14 +23,17 @@ block-end-requires c κs = search needs
 add-end : tie.Need-add-end Inv-loop μ-loop
 add-end c = search needs
 
+make-room-requires : tie.Need-make-room-requires Inv-loop μ-loop
+make-room-requires c κs = search needs
+
 nth-step-requires : tie.Need-nth-step-requires Inv-loop μ-loop
 nth-step-requires c κs = search needs
 
 put-head-requires : tie.Need-put-head-requires Inv-loop μ-loop
 put-head-requires c κs = search needs
 
-put-steps-requires : tie.Need-put-steps-requires Inv-loop μ-loop
-put-steps-requires c κs = search needs
+print-steps-requires : tie.Need-print-steps-requires Inv-loop μ-loop
+print-steps-requires c κs = search needs
 
 loop-less : tie.Need-loop-less Inv-loop μ-loop
 loop-less c = search needs
@@ -43,8 +47,8 @@ same-length c = search needs
 returns : tie.Need-returns Inv-loop μ-loop
 returns c = search needs
 
-pub put-blocks-spec : {M : Type 1} → statement M
-put-blocks-spec =
+pub print-blocks-spec : {M : Type 1} → statement M
+print-blocks-spec =
     tie.close
     (tie.spec
     Inv-loop
@@ -52,9 +56,10 @@ put-blocks-spec =
     loop-holds
     block-end-requires
     add-end
+    make-room-requires
     nth-step-requires
     put-head-requires
-    put-steps-requires
+    print-steps-requires
     loop-less
     loop-again
     same-length
