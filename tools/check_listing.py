@@ -32,8 +32,8 @@ OPENING = (
     "Above each block is its expression as the circuit wrote it. A prime (') means the next row; behind brackets, for all inside them.\n"
 )
 MEANINGS = {
-    1: "a line is no frame, or a frame is malformed or out of order (an unknown kind, a prime, muladd or next byte other than 0 and 1, "
-    "expression flags above 7, an unused id other than 0, minus zero, a literal out of range)",
+    1: "malformed line or frame: text that is no frame, an unknown kind, frames out of order, a prime, muladd or next byte that is not 0 or 1, "
+    "expression flags above 7, an unused id that is not 0, minus zero, or a literal out of range",
     2: "a child count differs from that of the node's kind",
     3: "a child is not earlier than its parent, a node is used twice, or a root or an expression number is not there",
     4: "exp leaves form a cycle",

@@ -20,14 +20,17 @@ const WORDS_ROOM: usize = 256;
 // The head of a block is the longest of what is put at a time: each node has one use, so an expression has at most all of them.
 const ROOM: usize = NODE_LIMIT * NODE_ROOM + WORDS_ROOM;
 
-pub const PAGE_SIZE: usize = 2 * ROOM;
+// So much is put before the page is written.
+const FILL: usize = 32768;
 
-// Writes the page where less than the room for the next text is left.
+pub const PAGE_SIZE: usize = FILL + ROOM;
+
+// Writes the page where the next text might not fit.
 fn make_room(page: &[u8], used: usize) -> usize
     requires { ⌜ used ≤ length (now page) ⌝ }
-    ensures { λ r. ⌜ r ≤ used ⌝ }
+    ensures { λ r. ⌜ (r ≤ used) × (r ≤ 32768) ⌝ }
 {
-    if ROOM < used {
+    if FILL < used {
         flush(page, used);
         return 0;
     }

@@ -20,7 +20,7 @@ fn put_meaning(page: &mut [u8], used: usize, number: u8) -> usize
         MALFORMED => put_text(
             page,
             used,
-            b"a line is no frame, or a frame is malformed or out of order (an unknown kind, a prime, muladd or next byte other than 0 and 1, expression flags above 7, an unused id other than 0, minus zero, a literal out of range)",
+            b"malformed line or frame: text that is no frame, an unknown kind, frames out of order, a prime, muladd or next byte that is not 0 or 1, expression flags above 7, an unused id that is not 0, minus zero, or a literal out of range",
         ),
         CHILD_COUNT => put_text(
             page,

@@ -13,11 +13,11 @@ use starkinfo_codegen::words::kind_of;
 use starkinfo_codegen::words::second_child;
 use starkinfo_codegen::words::third_child;
 ghost use mathlib.Core.Path.{_≡_};
-ghost use Prim.Native.Nat.{_<_};
+ghost use Prim.Native.Nat.{_≤_};
 ghost use lib.ListN.{length};
 ghost use Rattle.readable.specs.Pages.{Puts};
-ghost use Rattle.readable.specs.Binding.{binding, firstPlace, secondPlace};
-ghost use Rattle.readable.specs.Trees.{TreeAsked, OperationAsked};
+ghost use Rattle.readable.specs.Binding.{binding, inBrackets, firstPlace, secondPlace};
+ghost use Rattle.readable.specs.Trees.{TreeAsked};
 
 // How tightly the parts of an operation bind, the least first; a leaf and what is in brackets are whole.
 pub const SUM: u8 = 0;
@@ -45,6 +45,7 @@ fn first_place(kind: u8) -> u8
     ensures { λ r. ⌜ r ≡ firstPlace kind ⌝ }
 {
     match kind {
+        Kind::NEG => SUM,
         Kind::MULADD => PRODUCT,
         _ => binding_of(kind),
     }
@@ -57,6 +58,58 @@ fn second_place(kind: u8) -> u8
         Kind::MUL..=Kind::MULADD => WHOLE,
         _ => PRODUCT,
     }
+}
+
+// Is what is written at a node of this kind in brackets there?
+fn in_brackets(kind: u8, place: u8) -> bool
+    ensures { λ r. ⌜ r ≡ inBrackets kind place ⌝ }
+{
+    if kind == Kind::NEG {
+        return true;
+    }
+    binding_of(kind) < place
+}
+
+fn put_open(page: &mut [u8], used: usize, kind: u8, place: u8) -> usize
+    requires { ⌜ used ≤ length (now page) ⌝ }
+    ensures { λ r. ⌜ Puts used r (length (now (page .exit))) ⌝ }
+{
+    if kind == Kind::NEG {
+        return put_text(page, used, b"-(");
+    }
+    if in_brackets(kind, place) {
+        return put_text(page, used, b"(");
+    }
+    used
+}
+
+fn put_close(page: &mut [u8], used: usize, kind: u8, place: u8) -> usize
+    requires { ⌜ used ≤ length (now page) ⌝ }
+    ensures { λ r. ⌜ Puts used r (length (now (page .exit))) ⌝ }
+{
+    if in_brackets(kind, place) {
+        return put_text(page, used, b")");
+    }
+    used
+}
+
+// What stands behind the only operand of a node: the literal of an addc or mulc.
+fn put_own(
+    nodes: &[u64; NODE_WORDS],
+    literals: &[u64; NODE_LIMIT],
+    page: &mut [u8],
+    used: usize,
+    kind: u8,
+    i: u16,
+) -> usize
+    requires { ⌜ used ≤ length (now page) ⌝ }
+    ensures { λ r. ⌜ Puts used r (length (now (page .exit))) ⌝ }
+{
+    if kind == Kind::NEG {
+        return used;
+    }
+    let sign = put_sign(page, used, kind);
+    put_literal(nodes, literals, page, sign, i)
 }
 
 // The tree at a node, in brackets where it binds less than its place asks. A child is earlier than its parent (admission, 3), whose number is `below`:
@@ -76,24 +129,6 @@ pub fn put_tree(
     if below <= i {
         return used;
     }
-    if place <= binding_of(kind_of(nodes, i)) {
-        return put_operation(nodes, literals, page, used, i);
-    }
-    let open = put_text(page, used, b"(");
-    let inside = put_operation(nodes, literals, page, open, i);
-    put_text(page, inside, b")")
-}
-
-fn put_operation(
-    nodes: &[u64; NODE_WORDS],
-    literals: &[u64; NODE_LIMIT],
-    page: &mut [u8],
-    used: usize,
-    i: u16,
-) -> usize
-    requires { ⌜ OperationAsked (length (now page)) used i ⌝ }
-    ensures { λ r. ⌜ Puts used r (length (now (page .exit))) ⌝ }
-{
     let kind = kind_of(nodes, i);
     if Kind::is_leaf(kind) {
         return put_reference(
@@ -104,17 +139,21 @@ fn put_operation(
             leaf_reference(nodes, THIS_ROW, i),
         );
     }
-    let a = first_child(nodes, i);
-    if kind == Kind::NEG {
-        let open = put_text(page, used, b"-(");
-        let inside = put_tree(nodes, literals, page, open, i, a, SUM);
-        return put_text(page, inside, b")");
+    let open = put_open(page, used, kind, place);
+    let first = put_tree(
+        nodes,
+        literals,
+        page,
+        open,
+        i,
+        first_child(nodes, i),
+        first_place(kind),
+    );
+    if Kind::child_count(kind) == 1 {
+        let own = put_own(nodes, literals, page, first, kind, i);
+        return put_close(page, own, kind, place);
     }
-    let first = put_tree(nodes, literals, page, used, i, a, first_place(kind));
     let sign = put_sign(page, first, kind);
-    if Kind::carries_literal(kind) {
-        return put_literal(nodes, literals, page, sign, i);
-    }
     let second = put_tree(
         nodes,
         literals,
@@ -125,10 +164,10 @@ fn put_operation(
         second_place(kind),
     );
     if kind != Kind::MULADD {
-        return second;
+        return put_close(page, second, kind, place);
     }
     let plus = put_sign(page, second, Kind::ADD);
-    put_tree(
+    let third = put_tree(
         nodes,
         literals,
         page,
@@ -136,5 +175,6 @@ fn put_operation(
         i,
         third_child(nodes, i),
         PRODUCT,
-    )
+    );
+    put_close(page, third, kind, place)
 }
