@@ -3,8 +3,8 @@
 
 usage: tools/check_listing.py LISTING STEPS FILE..
 
-Each stored run of the files (vectors/steps.txt) is shown with its stored list, and RANDOM pools more with the list that STEPS prints for
-them, the same pools every time. Outputs are compared byte for byte, but for the node that a refusal blames. In small pools each
+Each stored run of the files (vectors/steps.txt) is shown with its stored list, and the longest expression and RANDOM pools more with the list
+that STEPS prints for them, the same every time. Outputs are compared byte for byte, but for the node that a refusal blames. In small pools each
 expression is also read back, by Python's own parser: without its brackets it is the tree that it is with all of them. It ends with
 status 1 at a difference. Nothing but Python's own library is needed.
 """
@@ -158,11 +158,11 @@ class Maker:
     def __init__(self, seed):
         self.random = random.Random(seed)
         self.lines, self.nodes = [], 0
-        self.rooms = self.random.randint(1, 4)
-        roots = [self.tree(e, self.random.randint(0, 4)) for e in range(self.rooms)]
+        self.expressions = self.random.randint(1, 4)
+        roots = [self.tree(e, self.random.randint(0, 4)) for e in range(self.expressions)]
         self.lines += [f"02{root:04x}00" for root in roots]
         for _ in range(self.random.randint(1, 6)):
-            self.lines.append(f"03{self.random.randrange(self.rooms):04x}0{self.random.randint(0, 1)}0{self.random.randint(0, 1)}")
+            self.lines.append(f"03{self.random.randrange(self.expressions):04x}0{self.random.randint(0, 1)}0{self.random.randint(0, 1)}")
 
     def tree(self, e, depth):
         kinds = list(CHILDREN) if depth else [k for k in range(CM, X + 1) if k != EXP or e]
@@ -182,6 +182,12 @@ class Maker:
         self.lines.append(line)
         self.nodes += 1
         return self.nodes - 1
+
+
+def longest():
+    """As much text as an expression can have: 4,096 nodes, each the longest literal in brackets or not; at both rows."""
+    chain = [f"01{ADDC + i % 2:02x}00000001{i:04x}018000000000000000" for i in range(4095)]
+    return [f"01{NUMBER:02x}0000000001" + "f" * 16, *chain, "020fff00", "0300000000", "0300000100"]
 
 
 def printed(program, data):
@@ -208,9 +214,10 @@ def main():
         for path in sys.argv[3:]:
             with open(path, encoding="ascii", newline="") as file:
                 cases.update(runs(file.read()))
-        for seed in range(RANDOM):
-            data = "".join(line + "\n" for line in Maker(seed).lines).encode()
-            cases[f"made-{seed}"] = (data, printed(steps, data))
+        made = {"longest": longest(), **{f"made-{seed}": Maker(seed).lines for seed in range(RANDOM)}}
+        for case, lines in made.items():
+            data = "".join(line + "\n" for line in lines).encode()
+            cases[case] = (data, printed(steps, data))
         with ThreadPoolExecutor(AT_A_TIME) as pool:
             found = pool.map(lambda case: fault(program, *case), cases.values())
             wrong = {case: what for case, what in zip(cases, found) if what}
