@@ -17,7 +17,7 @@ ghost use Prim.Native.Nat.{_≤_};
 ghost use lib.ListN.{length};
 ghost use Rattle.readable.specs.Pages.{Puts};
 ghost use Rattle.readable.specs.Binding.{binding, inBrackets, firstPlace, secondPlace};
-ghost use Rattle.readable.specs.Trees.{TreeAsked};
+ghost use Rattle.readable.specs.Trees.{LeafAsked, TreeAsked};
 
 // How tightly the parts of an operation bind, the least first; a leaf and what is in brackets are whole.
 pub const SUM: u8 = 0;
@@ -112,6 +112,20 @@ fn put_own(
     put_literal(nodes, literals, page, sign, i)
 }
 
+fn put_leaf(
+    nodes: &[u64; NODE_WORDS],
+    literals: &[u64; NODE_LIMIT],
+    page: &mut [u8],
+    used: usize,
+    i: u16,
+) -> usize
+    requires { ⌜ LeafAsked (length (now page)) used i ⌝ }
+    ensures { λ r. ⌜ Puts used r (length (now (page .exit))) ⌝ }
+{
+    let leaf = leaf_reference(nodes, THIS_ROW, i);
+    put_reference(nodes, literals, page, used, leaf)
+}
+
 // The tree at a node, in brackets where it binds less than its place asks. A child is earlier than its parent (admission, 3), whose number is `below`:
 // of any other nothing is shown.
 pub fn put_tree(
@@ -131,50 +145,23 @@ pub fn put_tree(
     }
     let kind = kind_of(nodes, i);
     if Kind::is_leaf(kind) {
-        return put_reference(
-            nodes,
-            literals,
-            page,
-            used,
-            leaf_reference(nodes, THIS_ROW, i),
-        );
+        return put_leaf(nodes, literals, page, used, i);
     }
     let open = put_open(page, used, kind, place);
-    let first = put_tree(
-        nodes,
-        literals,
-        page,
-        open,
-        i,
-        first_child(nodes, i),
-        first_place(kind),
-    );
+    let a = first_child(nodes, i);
+    let first = put_tree(nodes, literals, page, open, i, a, first_place(kind));
     if Kind::child_count(kind) == 1 {
         let own = put_own(nodes, literals, page, first, kind, i);
         return put_close(page, own, kind, place);
     }
     let sign = put_sign(page, first, kind);
-    let second = put_tree(
-        nodes,
-        literals,
-        page,
-        sign,
-        i,
-        second_child(nodes, i),
-        second_place(kind),
-    );
+    let b = second_child(nodes, i);
+    let second = put_tree(nodes, literals, page, sign, i, b, second_place(kind));
     if kind != Kind::MULADD {
         return put_close(page, second, kind, place);
     }
     let plus = put_sign(page, second, Kind::ADD);
-    let third = put_tree(
-        nodes,
-        literals,
-        page,
-        plus,
-        i,
-        third_child(nodes, i),
-        PRODUCT,
-    );
+    let c = third_child(nodes, i);
+    let third = put_tree(nodes, literals, page, plus, i, c, PRODUCT);
     put_close(page, third, kind, place)
 }

@@ -2,7 +2,6 @@
 -- Assumes nothing.
 use borrow.Author.Needs.{needs}
 use native.Mathlib.Omega.{arith}
-use Rattle.readable.proofs.Leaves.{next-fits}
 use Prim.Native.Nat.{ℕ, _<_}
 use borrow.Fn.Kinds.{In}
 use borrow.Fn.PlainCycle.{Measures, is, falls, and}
@@ -11,14 +10,13 @@ use Rattle.readable.proofs.tree.put_tree.Kinds as put-tree-kinds
 use Rattle.readable.proofs.tree.+put_tree.Lts-put_tree as put-tree-lts
 use Rattle.kinds.proofs.kind.Kind.child_count.Reads as child-count-reads
 use Rattle.kinds.proofs.kind.Kind.is_leaf.Reads as is-leaf-reads
-use Rattle.readable.proofs.reference.put_reference.Reads as put-reference-reads
 use Rattle.readable.proofs.sign.put_sign.Reads as put-sign-reads
 use Rattle.readable.proofs.tree.first_place.Reads as first-place-reads
 use Rattle.readable.proofs.tree.put_close.Reads as put-close-reads
+use Rattle.readable.proofs.tree.put_leaf.Reads as put-leaf-reads
 use Rattle.readable.proofs.tree.put_open.Reads as put-open-reads
 use Rattle.readable.proofs.tree.put_own.Reads as put-own-reads
 use Rattle.readable.proofs.tree.second_place.Reads as second-place-reads
-use Rattle.starkinfo_codegen.proofs.source.leaf_reference.Reads as leaf-reference-reads
 use Rattle.starkinfo_codegen.proofs.words.first_child.Reads as first-child-reads
 use Rattle.starkinfo_codegen.proofs.words.kind_of.Reads as kind-of-reads
 use Rattle.starkinfo_codegen.proofs.words.second_child.Reads as second-child-reads
@@ -37,7 +35,7 @@ put-tree-below t =
     and 3 put-tree-kinds.ps (falls 3 put-tree-kinds.ps _<_ μ-put-tree t) put-tree.Pre
 
 abbrev put-tree-claims : ℕ → put-tree-lts.Claims
-put-tree-claims t = (kind-of-reads.Asked, kind-of-reads.Learnt, is-leaf-reads.Asked, is-leaf-reads.Learnt, leaf-reference-reads.Asked, leaf-reference-reads.Learnt, put-reference-reads.Asked, put-reference-reads.Learnt, put-open-reads.Asked, put-open-reads.Learnt, first-child-reads.Asked, first-child-reads.Learnt, first-place-reads.Asked, first-place-reads.Learnt, put-tree-below t, put-tree.Post, child-count-reads.Asked, child-count-reads.Learnt, put-own-reads.Asked, put-own-reads.Learnt, put-close-reads.Asked, put-close-reads.Learnt, put-sign-reads.Asked, put-sign-reads.Learnt, second-child-reads.Asked, second-child-reads.Learnt, second-place-reads.Asked, second-place-reads.Learnt, third-child-reads.Asked, third-child-reads.Learnt)
+put-tree-claims t = (kind-of-reads.Asked, kind-of-reads.Learnt, is-leaf-reads.Asked, is-leaf-reads.Learnt, put-leaf-reads.Asked, put-leaf-reads.Learnt, put-open-reads.Asked, put-open-reads.Learnt, first-child-reads.Asked, first-child-reads.Learnt, first-place-reads.Asked, first-place-reads.Learnt, put-tree-below t, put-tree.Post, child-count-reads.Asked, child-count-reads.Learnt, put-own-reads.Asked, put-own-reads.Learnt, put-close-reads.Asked, put-close-reads.Learnt, put-sign-reads.Asked, put-sign-reads.Learnt, second-child-reads.Asked, second-child-reads.Learnt, second-place-reads.Asked, second-place-reads.Learnt, third-child-reads.Asked, third-child-reads.Learnt)
 
 put-tree-returns : (t : ℕ) → put-tree-lts.Need-returns (put-tree-claims t) (put-tree-at t) put-tree.Post
 put-tree-returns t c = search needs
@@ -48,11 +46,8 @@ put-tree-kind-of-requires t c κs = search needs
 put-tree-is-leaf-requires : (t : ℕ) → put-tree-lts.Need-is-leaf-requires (put-tree-claims t) (put-tree-at t) put-tree.Post
 put-tree-is-leaf-requires t c κs = search needs
 
-put-tree-leaf-reference-requires : (t : ℕ) → put-tree-lts.Need-leaf-reference-requires (put-tree-claims t) (put-tree-at t) put-tree.Post
-put-tree-leaf-reference-requires t c κs = (omega (arith, c .before .before .before .before .if1 .left, c .before .before .before .before .before .before .pre .1 .nodes), next-fits _ _)
-
-put-tree-put-reference-requires : (t : ℕ) → put-tree-lts.Need-put-reference-requires (put-tree-claims t) (put-tree-at t) put-tree.Post
-put-tree-put-reference-requires t c κs = search needs
+put-tree-put-leaf-requires : (t : ℕ) → put-tree-lts.Need-put-leaf-requires (put-tree-claims t) (put-tree-at t) put-tree.Post
+put-tree-put-leaf-requires t c κs = search needs
 
 put-tree-same-length : (t : ℕ) → put-tree-lts.Need-same-length (put-tree-claims t) (put-tree-at t) put-tree.Post
 put-tree-same-length t c = search needs
@@ -112,7 +107,7 @@ put-tree-put-sign-requires-2 : (t : ℕ) → put-tree-lts.Need-put-sign-requires
 put-tree-put-sign-requires-2 t c κs = search needs
 
 put-tree-third-child-requires : (t : ℕ) → put-tree-lts.Need-third-child-requires (put-tree-claims t) (put-tree-at t) put-tree.Post
-put-tree-third-child-requires t c κs = omega (arith, c .before .before .before .before .before .before .before .before .before .before .before .before .before .before .before .before .before .before .before .before .before .before .before .before .before .before .before .before .before .before .before .if1 .left, c .before .before .before .before .before .before .before .before .before .before .before .before .before .before .before .before .before .before .before .before .before .before .before .before .before .before .before .before .before .before .before .before .before .pre .1 .nodes)
+put-tree-third-child-requires t c κs = omega (arith, c .before .before .before .before .before .before .before .before .before .before .before .before .before .before .before .before .before .before .before .before .before .before .before .before .before .before .before .before .before .before .if1 .left, c .before .before .before .before .before .before .before .before .before .before .before .before .before .before .before .before .before .before .before .before .before .before .before .before .before .before .before .before .before .before .before .before .pre .1 .nodes)
 
 put-tree-put-tree-requires-3 : (t : ℕ) → put-tree-lts.Need-put-tree-requires-3 (put-tree-claims t) (put-tree-at t) put-tree.Post
 put-tree-put-tree-requires-3 t c κs = (omega (arith, c .before .before .before .before .before .before .before .before .before .before .before .before .before .before .before .before .before .before .before .before .before .before .before .before .before .before .before .before .before .before .before .before .if1 .left, c .before .before .before .before .before .before .before .before .before .before .before .before .before .before .before .before .before .before .before .before .before .before .before .before .before .before .before .before .before .before .before .before .before .before .pre .0), record { room = c .before .before .before .before .put-sign2 .ensures .within; nodes = omega (arith, c .before .before .before .before .before .before .before .before .before .before .before .before .before .before .before .before .before .before .before .before .before .before .before .before .before .before .before .before .before .before .before .before .if1 .left, c .before .before .before .before .before .before .before .before .before .before .before .before .before .before .before .before .before .before .before .before .before .before .before .before .before .before .before .before .before .before .before .before .before .before .pre .1 .nodes) })
@@ -133,8 +128,7 @@ pub +put-tree-spec : {M : Type 1} → statement M
     (put-tree-returns t)
     (put-tree-kind-of-requires t)
     (put-tree-is-leaf-requires t)
-    (put-tree-leaf-reference-requires t)
-    (put-tree-put-reference-requires t)
+    (put-tree-put-leaf-requires t)
     (put-tree-same-length t)
     (put-tree-returns-2 t)
     (put-tree-put-open-requires t)
