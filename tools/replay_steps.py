@@ -1,11 +1,12 @@
 #!/usr/bin/env python3
-"""Replay vectors/steps.txt on a program: each input on standard input, and what it prints compared byte for byte.
+"""Replay a file of stored runs, as vectors/steps.txt, on a program: each input on standard input, and what it prints compared byte for byte.
 
 usage: tools/replay_steps.py PROGRAM FILE
 
 The head of the file says how runs are written. It ends with status 1 where an output differs, or where the program does not
 end by itself with status 0. Nothing but Python's own library is needed.
 """
+import os
 import re
 import subprocess
 import sys
@@ -15,7 +16,7 @@ PATIENCE = 60
 AT_A_TIME = 2
 HEXADECIMAL = re.compile(r"[0-9a-f]+")
 ESCAPED = re.compile(r"(?:[0-9A-Za-z]|\\n|\\x[0-9a-f]{2})*")
-OUTPUTS = ("output original", "output document")
+OUTPUTS = ("output original", "output document", "output stored")
 
 
 class Malformed(Exception):
@@ -37,6 +38,8 @@ def filled(template, number):
 
 def expanded(piece):
     """The bytes that one line of an input or output stands for."""
+    if piece.startswith("|"):
+        return (piece[2:] + "\n").encode()
     if piece.startswith("text "):
         escaped = piece[len("text "):]
         if not ESCAPED.fullmatch(escaped):
@@ -48,7 +51,7 @@ def expanded(piece):
         return "".join(filled(words[3], n) + "\n" for n in numbers).encode()
     if HEXADECIMAL.fullmatch(piece):
         return piece.encode() + b"\n"
-    raise Malformed(f"digits, each or text come here, not {piece}")
+    raise Malformed(f"digits, each, text or | come here, not {piece}")
 
 
 def runs(text):
@@ -115,8 +118,9 @@ def main():
         sys.exit(f"{path}, {fault}" if isinstance(fault, Malformed) else str(fault))
     for name, fault in wrong.items():
         print(f"{name}: {fault}", file=sys.stderr)
-    print(f"steps: {len(stored)} runs, {len(stored) - len(wrong)} equal")
+    print(f"{os.path.basename(program)}: {len(stored)} runs, {len(stored) - len(wrong)} equal")
     sys.exit(1 if wrong else 0)
 
 
-main()
+if __name__ == "__main__":
+    main()

@@ -1,0 +1,54 @@
+// A literal in decimal, with its sign.
+use crate::text::put_decimal;
+use crate::text::put_text;
+use frames::count::NODE_LIMIT;
+use frames::tables::NODE_WORDS;
+use frames::tables::kind_at;
+use frames::tables::sign_at;
+use kinds::kind::Kind;
+use kinds::literal::Literal;
+ghost use mathlib.Core.Path.{_≡_};
+ghost use Rattle.output.specs.Records.{litOf, literalIn};
+ghost use Prim.Native.Nat.{_≤_};
+ghost use lib.ListN.{length};
+ghost use Rattle.readable.specs.Pages.{Puts};
+
+const ZERO: Literal = Literal {
+    negative: false,
+    magnitude: 0,
+};
+
+// What a node brings: neg brings 0.
+fn literal_of(nodes: &[u64; NODE_WORDS], literals: &[u64; NODE_LIMIT], n: usize) -> Literal
+    ensures { λ r. ⌜ litOf r ≡ literalIn (now (nodes .entry)) (now (literals .entry)) n ⌝ }
+{
+    if NODE_LIMIT <= n {
+        return ZERO;
+    }
+    if Kind::carries_literal(kind_at(nodes, n)) {
+        return Literal {
+            negative: sign_at(nodes, n) == 1,
+            magnitude: literals[n],
+        };
+    }
+    ZERO
+}
+
+// The literal that a node brings. Its minus has no space behind it, and so is no subtraction's.
+pub fn put_literal(
+    nodes: &[u64; NODE_WORDS],
+    literals: &[u64; NODE_LIMIT],
+    page: &mut [u8],
+    used: usize,
+    n: u16,
+) -> usize
+    requires { ⌜ used ≤ length (now page) ⌝ }
+    ensures { λ r. ⌜ Puts used r (length (now (page .exit))) ⌝ }
+{
+    let l = literal_of(nodes, literals, n as usize);
+    if l.negative {
+        let minus = put_text(page, used, b"-");
+        return put_decimal(page, minus, l.magnitude);
+    }
+    put_decimal(page, used, l.magnitude)
+}
