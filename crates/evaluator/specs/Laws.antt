@@ -1,0 +1,9 @@
+-- Laws over plain variables, which the functions' proofs and the theorems cite.
+pub mod Keys
+pub mod Index
+pub mod Chains
+pub mod Arithmetic
+pub mod Steps
+pub mod Records
+pub mod Runs
+pub mod Valued

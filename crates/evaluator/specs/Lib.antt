@@ -1,0 +1,8 @@
+-- The definitions that the contracts cite, and the laws on them that other crates use.
+pub mod Given
+pub mod Decoding
+pub mod Evaluation
+pub mod Cells
+pub mod Machine
+pub mod Keyed
+pub mod Laws
