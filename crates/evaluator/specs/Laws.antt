@@ -7,3 +7,5 @@ pub mod Steps
 pub mod Records
 pub mod Runs
 pub mod Valued
+pub mod Holding
+pub mod Simulation
