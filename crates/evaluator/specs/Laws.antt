@@ -9,3 +9,4 @@ pub mod Runs
 pub mod Valued
 pub mod Holding
 pub mod Simulation
+pub mod Marks

@@ -5,4 +5,5 @@ pub mod Evaluation
 pub mod Cells
 pub mod Machine
 pub mod Keyed
+pub mod Presence
 pub mod Laws

@@ -120,19 +120,23 @@ after (next t) f = f t
 after noRule f = noRule
 after over f = over
 
+-- what a record computes, where a source's value is what R says
+unfoldable pub readsBy : (Reference → Option ℕ) → List Reference → List (Option ℕ)
+readsBy R [] = []
+readsBy R (r ∷ rs) = R r ∷ readsBy R rs
+
+unfoldable pub valueBy : ℕ → (Reference → Option ℕ) → bytes.Step → Option ℕ
+valueBy m R x = bind (opFrom (x .op)) (λ o. apply (modulo m) o (readsBy R (countedIn x)))
+
 module _ (nodes literals : List ℕ) (m : ℕ) (g : Lent) where
   unfoldable pub readIn : Table → Reference → Option ℕ
   readIn t r =
       cond (eqb (r .kind) kind.number) (some (litMod m (literalIn nodes literals (r .extra))))
       (either (lookup t (placeNo r)) (beforeIn m g (r .kind) (r .id) (r .prime)))
 
-  unfoldable pub readsIn : Table → List Reference → List (Option ℕ)
-  readsIn t [] = []
-  readsIn t (r ∷ rs) = readIn t r ∷ readsIn t rs
-
   -- what a record computes
-  unfoldable pub valueIn : Table → bytes.Step → Option ℕ
-  valueIn t x = bind (opFrom (x .op)) (λ o. apply (modulo m) o (readsIn t (countedIn x)))
+  abbrev pub valueIn : Table → bytes.Step → Option ℕ
+  valueIn t x = valueBy m (readIn t) x
 
   unfoldable pub stepTo : Table → bytes.Step → Outcome
   stepTo t x = storedBy t (x .dest) (valueIn t x)

@@ -2,6 +2,7 @@
 pub mod arithmetic;
 pub mod cells;
 pub mod given;
+pub mod presence;
 pub mod records;
 pub mod run;
 pub mod step;

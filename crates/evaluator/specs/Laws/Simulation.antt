@@ -25,7 +25,7 @@ use Rattle.evaluator.specs.Given.{Lent, given}
 use Rattle.evaluator.specs.Decoding.{countedIn, goodReference, goodReferences, goodRecord, kindFrom, opFrom, refFrom, refsFrom, stepFrom, stepsFrom}
 use Rattle.evaluator.specs.Evaluation.{cellLimit, isAmong, adding, writing, writtenAfter}
 use Rattle.evaluator.specs.Cells.{idLimit, keyNo, placeNo, writableNo}
-use Rattle.evaluator.specs.Machine.{Modulus, beforeIn, Table, Kept, lookup, Outcome, next, noRule, over, stored, storedBy, after, readIn, readsIn, valueIn, stepTo, runTo}
+use Rattle.evaluator.specs.Machine.{Modulus, beforeIn, Table, Kept, lookup, Outcome, next, noRule, over, stored, storedBy, after, readIn, readsBy, valueBy, valueIn, stepTo, runTo}
 use Rattle.evaluator.specs.Laws.Keys.{Small, keyOf, place-small, place-key, writable-is, before-is, kind-from}
 use Rattle.evaluator.specs.Laws.Steps.{kept-step}
 use Rattle.evaluator.specs.Laws.Holding.{Held, lookup-is, Stored, stored-holds}
@@ -121,10 +121,10 @@ module _ (nodes literals : List ℕ) (m : ℕ) (g : Lent) where
     pub refs : List Ref
     pub from : refsFrom nodes literals rs ≡ some refs
     pub reads :
-        (s : Store ℕ) (ds : List Cell) (t : Table) → Held s ds t → readsIn nodes literals m g t rs ≡ readAll (modulo m) (given m g) s refs
+        (s : Store ℕ) (ds : List Cell) (t : Table) → Held s ds t → readsBy (readIn nodes literals m g t) rs ≡ readAll (modulo m) (given m g) s refs
 
   pub refs-are : (rs : List Reference) → goodReferences rs ≡ true → Each Narrow rs → RefsAre rs
-  unfolding goodReferences refsFrom readsIn
+  unfolding goodReferences refsFrom readsBy
   refs-are [] h w = record { refs = []; from = refl; reads = λ s ds t k. refl }
   refs-are (r ∷ rs) h w =
       let a = ref-is r (and-left (goodReference r) (goodReferences rs) h) (w .0) in
@@ -161,7 +161,7 @@ module _ (nodes literals : List ℕ) (m : ℕ) (g : Lent) where
 
     module _ (s : Store ℕ) (ds : List Cell) (t : Table) (k : Held s ds t) (q : Kept m t) where
       no-op : opFrom (x .op) ≡ none → (stepFrom nodes literals x ≡ none) × (stepTo nodes literals m g t x ≡ noRule)
-      unfolding stepFrom stepTo valueIn
+      unfolding stepFrom stepTo valueBy
       no-op e = (rw e, rw e)
 
       module _ (o : StepOp) (e : opFrom (x .op) ≡ some o) where
@@ -173,7 +173,7 @@ module _ (nodes literals : List ℕ) (m : ℕ) (g : Lent) where
         from-is = rw (e, dest-is .from, sources-are .from)
 
         value-is : valueIn nodes literals m g t x ≡ computes (modulo m) (given m g) s o (sources-are .refs)
-        unfolding valueIn
+        unfolding valueBy
         value-is = rw (e, sources-are .reads s ds t k)
 
         done-by :

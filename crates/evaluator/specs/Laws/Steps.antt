@@ -29,7 +29,7 @@ use Rattle.evaluator.specs.Given.{Lent, wordAt, rowAt, rowCount}
 use Rattle.evaluator.specs.Decoding.{opFrom, countedIn}
 use Rattle.evaluator.specs.Evaluation.{cellLimit}
 use Rattle.evaluator.specs.Cells.{idIn, placeNo, writableNo, indexOf, Chained, Adds}
-use Rattle.evaluator.specs.Machine.{Modulus, known, beforeIn, binaryNo, Table, table, Kept, valueAt, lookup, Outcome, next, noRule, over, storedAt, stored, storedBy, after, readIn, readsIn, valueIn, stepTo, runTo}
+use Rattle.evaluator.specs.Machine.{Modulus, known, beforeIn, binaryNo, Table, table, Kept, valueAt, lookup, Outcome, next, noRule, over, storedAt, stored, storedBy, readIn, readsBy, valueBy, valueIn, stepTo}
 use Rattle.evaluator.specs.Laws.Index.{index-there, index-not}
 use Rattle.evaluator.specs.Laws.Chains.{chained-more}
 use Rattle.evaluator.specs.Laws.Arithmetic.{mod-below, lit-below}
@@ -207,81 +207,78 @@ needs-of m o = by (eqb o op.add) refl (eqb o op.sub) refl (eqb o op.mul) refl (e
     by false a′ false b′ false c′ false d′ false e′ =
         needs-other m o (eqb-false o op.add a′) (eqb-false o op.sub b′) (eqb-false o op.mul c′) (eqb-false o op.muladd d′) (eqb-false o op.copy e′)
 
-module _ (nodes literals : List ℕ) (m : ℕ) (g : Lent) (t : Table) (x : bytes.Step) where
-  abbrev at : Reference → Option ℕ
-  at r = readIn nodes literals m g t r
-
+module _ (m : ℕ) (at : Reference → Option ℕ) (x : bytes.Step) where
   abbrev reads : ℕ → List (Option ℕ)
-  reads c = readsIn nodes literals m g t (upTo c (x .s0 ∷ x .s1 ∷ x .s2 ∷ []))
+  reads c = readsBy at (upTo c (x .s0 ∷ x .s1 ∷ x .s2 ∷ []))
 
   reads-one : (c : ℕ) → 1 ≤ c → (l : List (Option ℕ)) × (reads c ≡ at (x .s0) ∷ l)
-  unfolding readsIn
+  unfolding readsBy
   reads-one zero h = absurd (omega arith)
-  reads-one (suc c) h = (readsIn nodes literals m g t (upTo c (x .s1 ∷ x .s2 ∷ [])), refl)
+  reads-one (suc c) h = (readsBy at (upTo c (x .s1 ∷ x .s2 ∷ [])), refl)
 
   reads-two : (c : ℕ) → 2 ≤ c → (l : List (Option ℕ)) × (reads c ≡ at (x .s0) ∷ at (x .s1) ∷ l)
-  unfolding readsIn
+  unfolding readsBy
   reads-two zero h = absurd (omega arith)
   reads-two (suc zero) h = absurd (omega arith)
-  reads-two (suc (suc c)) h = (readsIn nodes literals m g t (upTo c (x .s2 ∷ [])), refl)
+  reads-two (suc (suc c)) h = (readsBy at (upTo c (x .s2 ∷ [])), refl)
 
   reads-three : (c : ℕ) → 3 ≤ c → (l : List (Option ℕ)) × (reads c ≡ at (x .s0) ∷ at (x .s1) ∷ at (x .s2) ∷ l)
-  unfolding readsIn
+  unfolding readsBy
   reads-three zero h = absurd (omega arith)
   reads-three (suc zero) h = absurd (omega arith)
   reads-three (suc (suc zero)) h = absurd (omega arith)
-  reads-three (suc (suc (suc c))) h = (readsIn nodes literals m g t (upTo c []), refl)
+  reads-three (suc (suc (suc c))) h = (readsBy at (upTo c []), refl)
 
   few-one : (c : ℕ) → c < 1 → running.one (reads c) ≡ none
-  unfolding readsIn
+  unfolding readsBy
   few-one zero h = refl
   few-one (suc c) h = absurd (omega arith)
 
   few-two : (c : ℕ) (f : ℕ → ℕ → ℕ) → c < 2 → running.two (reads c) f ≡ none
-  unfolding readsIn
+  unfolding readsBy
   few-two zero f h = refl
   few-two (suc zero) f h = refl
   few-two (suc (suc c)) f h = absurd (omega arith)
 
   few-three : (c : ℕ) (f : ℕ → ℕ → ℕ → ℕ) → c < 3 → running.three (reads c) f ≡ none
-  unfolding readsIn
+  unfolding readsBy
   few-three zero f h = refl
   few-three (suc zero) f h = refl
   few-three (suc (suc zero)) f h = refl
   few-three (suc (suc (suc c))) f h = absurd (omega arith)
 
-  value-by : (o : StepOp) → opFrom (x .op) ≡ some o → valueIn nodes literals m g t x ≡ apply (modulo m) o (reads (x .count))
-  unfolding valueIn
+  value-by : (o : StepOp) → opFrom (x .op) ≡ some o → valueBy m at x ≡ apply (modulo m) o (reads (x .count))
+  unfolding valueBy
   value-by o e = rw e
 
-  value-no : opFrom (x .op) ≡ none → valueIn nodes literals m g t x ≡ none
-  unfolding valueIn
+  value-no : opFrom (x .op) ≡ none → valueBy m at x ≡ none
+  unfolding valueBy
   value-no e = rw e
 
   -- no such step
-  pub value-none : sourcesNeeded (x .op) ≡ 0 → valueIn nodes literals m g t x ≡ none
+  pub value-none : sourcesNeeded (x .op) ≡ 0 → valueBy m at x ≡ none
   value-none h = by (needs-of m (x .op))
     where
-      by : Needs m (x .op) → valueIn nodes literals m g t x ≡ none
+      by : Needs m (x .op) → valueBy m at x ≡ none
       by (no-step z e) = value-no e
       by (of-one z e) = absurd (omega arith)
       by (of-two z p e f) = absurd (omega arith)
       by (of-three z e) = absurd (omega arith)
 
   -- too few sources
-  pub value-few : x .count < sourcesNeeded (x .op) → valueIn nodes literals m g t x ≡ none
+  pub value-few : x .count < sourcesNeeded (x .op) → valueBy m at x ≡ none
   value-few h = by (needs-of m (x .op))
     where
-      by : Needs m (x .op) → valueIn nodes literals m g t x ≡ none
+      by : Needs m (x .op) → valueBy m at x ≡ none
       by (no-step z e) = value-no e
       by (of-one z e) = value-by StepOp.copy e ∙ few-one (x .count) (omega arith)
       by (of-two z p e f) = value-by p e ∙ f (reads (x .count)) ∙ few-two (x .count) (binaryNo m (x .op)) (omega arith)
       by (of-three z e) = value-by StepOp.muladd e ∙ few-three (x .count) (λ u v w. ((u * v) % m + w) % m) (omega arith)
 
-  pub value-one : sourcesNeeded (x .op) ≡ 1 → 1 ≤ x .count → valueIn nodes literals m g t x ≡ at (x .s0)
+  pub value-one : sourcesNeeded (x .op) ≡ 1 → 1 ≤ x .count → valueBy m at x ≡ at (x .s0)
   value-one h c = by (needs-of m (x .op)) (reads-one (x .count) c)
     where
-      by : Needs m (x .op) → (l : List (Option ℕ)) × (reads (x .count) ≡ at (x .s0) ∷ l) → valueIn nodes literals m g t x ≡ at (x .s0)
+      by : Needs m (x .op) → (l : List (Option ℕ)) × (reads (x .count) ≡ at (x .s0) ∷ l) → valueBy m at x ≡ at (x .s0)
       by (no-step z e) w = absurd (omega arith)
       by (of-one z e) w = value-by StepOp.copy e ∙ ap running.one (w .1)
       by (of-two z p e f) w = absurd (omega arith)
@@ -289,12 +286,12 @@ module _ (nodes literals : List ℕ) (m : ℕ) (g : Lent) (t : Table) (x : bytes
 
   pub value-two :
       sourcesNeeded (x .op) ≡ 2 → 2 ≤ x .count
-      → valueIn nodes literals m g t x ≡ bind (at (x .s0)) (λ u. bind (at (x .s1)) (λ v. some (binaryNo m (x .op) u v)))
+      → valueBy m at x ≡ bind (at (x .s0)) (λ u. bind (at (x .s1)) (λ v. some (binaryNo m (x .op) u v)))
   value-two h c = by (needs-of m (x .op)) (reads-two (x .count) c)
     where
       by :
           Needs m (x .op) → (l : List (Option ℕ)) × (reads (x .count) ≡ at (x .s0) ∷ at (x .s1) ∷ l)
-          → valueIn nodes literals m g t x ≡ bind (at (x .s0)) (λ u. bind (at (x .s1)) (λ v. some (binaryNo m (x .op) u v)))
+          → valueBy m at x ≡ bind (at (x .s0)) (λ u. bind (at (x .s1)) (λ v. some (binaryNo m (x .op) u v)))
       by (no-step z e) w = absurd (omega arith)
       by (of-one z e) w = absurd (omega arith)
       by (of-two z p e f) w = value-by p e ∙ f (reads (x .count)) ∙ ap (λ l. running.two l (binaryNo m (x .op))) (w .1)
@@ -302,12 +299,12 @@ module _ (nodes literals : List ℕ) (m : ℕ) (g : Lent) (t : Table) (x : bytes
 
   pub value-three :
       sourcesNeeded (x .op) ≡ 3 → 3 ≤ x .count
-      → valueIn nodes literals m g t x ≡ bind (at (x .s0)) (λ u. bind (at (x .s1)) (λ v. bind (at (x .s2)) (λ w. some (((u * v) % m + w) % m))))
+      → valueBy m at x ≡ bind (at (x .s0)) (λ u. bind (at (x .s1)) (λ v. bind (at (x .s2)) (λ w. some (((u * v) % m + w) % m))))
   value-three h c = by (needs-of m (x .op)) (reads-three (x .count) c)
     where
       by :
           Needs m (x .op) → (l : List (Option ℕ)) × (reads (x .count) ≡ at (x .s0) ∷ at (x .s1) ∷ at (x .s2) ∷ l)
-          → valueIn nodes literals m g t x ≡ bind (at (x .s0)) (λ u. bind (at (x .s1)) (λ v. bind (at (x .s2)) (λ w. some (((u * v) % m + w) % m))))
+          → valueBy m at x ≡ bind (at (x .s0)) (λ u. bind (at (x .s1)) (λ v. bind (at (x .s2)) (λ w. some (((u * v) % m + w) % m))))
       by (no-step z e) w = absurd (omega arith)
       by (of-one z e) w = absurd (omega arith)
       by (of-two z p e f) w = absurd (omega arith)
@@ -316,22 +313,22 @@ module _ (nodes literals : List ℕ) (m : ℕ) (g : Lent) (t : Table) (x : bytes
   -- ---- the ways through the code: n is what the step byte needs
 
   module _ (n : ℕ) (e : n ≡ sourcesNeeded (x .op)) where
-    pub gives-none : n ≡ 0 → none ≡ valueIn nodes literals m g t x
+    pub gives-none : n ≡ 0 → none ≡ valueBy m at x
     gives-none h = sym (value-none (sym e ∙ h))
 
-    pub gives-few : x .count < n → none ≡ valueIn nodes literals m g t x
+    pub gives-few : x .count < n → none ≡ valueBy m at x
     gives-few h = sym (value-few (rw e at h))
 
     module _ (enough : n ≤ x .count) where
-      pub gives-one : (a : ℕ) → some a ≡ at (x .s0) → n ≡ 1 → some a ≡ valueIn nodes literals m g t x
+      pub gives-one : (a : ℕ) → some a ≡ at (x .s0) → n ≡ 1 → some a ≡ valueBy m at x
       gives-one a p h = p ∙ sym (value-one (sym e ∙ h) (omega arith))
 
-      pub gives-two : (a b r : ℕ) → some a ≡ at (x .s0) → some b ≡ at (x .s1) → n ≡ 2 → r ≡ binaryNo m (x .op) a b → some r ≡ valueIn nodes literals m g t x
+      pub gives-two : (a b r : ℕ) → some a ≡ at (x .s0) → some b ≡ at (x .s1) → n ≡ 2 → r ≡ binaryNo m (x .op) a b → some r ≡ valueBy m at x
       gives-two a b r p q h f = sym (value-two (sym e ∙ h) (omega arith) ∙ rw (← p, ← q) (ap some (sym f)))
 
       pub gives-three :
           (a b c u r : ℕ) → some a ≡ at (x .s0) → some b ≡ at (x .s1) → some c ≡ at (x .s2) → n ≡ 3 → u ≡ (a * b) % m → r ≡ (u + c) % m
-          → some r ≡ valueIn nodes literals m g t x
+          → some r ≡ valueBy m at x
       gives-three a b c u r p q s h k f = sym (value-three (sym e ∙ h) (omega arith) ∙ rw (← p, ← q, ← s) (ap some (sym (f ∙ rw k))))
 
       ways : (n ≡ 0 → ⊥) → n ≤ 3 → (n ≡ 1) ⊎ ((n ≡ 2) ⊎ (n ≡ 3))
@@ -345,23 +342,23 @@ module _ (nodes literals : List ℕ) (m : ℕ) (g : Lent) (t : Table) (x : bytes
               last : (n ≡ 1 → ⊥) → (n ≡ 2 → ⊥) → n ≡ 3
               last a b = omega arith
 
-      pub gives-no-first : none ≡ at (x .s0) → (n ≡ 0 → ⊥) → n ≤ 3 → none ≡ valueIn nodes literals m g t x
+      pub gives-no-first : none ≡ at (x .s0) → (n ≡ 0 → ⊥) → n ≤ 3 → none ≡ valueBy m at x
       gives-no-first p z l = by (ways z l)
         where
-          by : (n ≡ 1) ⊎ ((n ≡ 2) ⊎ (n ≡ 3)) → none ≡ valueIn nodes literals m g t x
+          by : (n ≡ 1) ⊎ ((n ≡ 2) ⊎ (n ≡ 3)) → none ≡ valueBy m at x
           by (inl h) = p ∙ sym (value-one (sym e ∙ h) (omega arith))
           by (inr (inl h)) = sym (value-two (sym e ∙ h) (omega arith) ∙ rw (← p))
           by (inr (inr h)) = sym (value-three (sym e ∙ h) (omega arith) ∙ rw (← p))
 
-      pub gives-no-second : (a : ℕ) → some a ≡ at (x .s0) → none ≡ at (x .s1) → (n ≡ 0 → ⊥) → (n ≡ 1 → ⊥) → n ≤ 3 → none ≡ valueIn nodes literals m g t x
+      pub gives-no-second : (a : ℕ) → some a ≡ at (x .s0) → none ≡ at (x .s1) → (n ≡ 0 → ⊥) → (n ≡ 1 → ⊥) → n ≤ 3 → none ≡ valueBy m at x
       gives-no-second a p q z y l = by (ways z l)
         where
-          by : (n ≡ 1) ⊎ ((n ≡ 2) ⊎ (n ≡ 3)) → none ≡ valueIn nodes literals m g t x
+          by : (n ≡ 1) ⊎ ((n ≡ 2) ⊎ (n ≡ 3)) → none ≡ valueBy m at x
           by (inl h) = absurd (y h)
           by (inr (inl h)) = sym (value-two (sym e ∙ h) (omega arith) ∙ rw (← p, ← q))
           by (inr (inr h)) = sym (value-three (sym e ∙ h) (omega arith) ∙ rw (← p, ← q))
 
-      pub gives-no-third : (a b : ℕ) → some a ≡ at (x .s0) → some b ≡ at (x .s1) → none ≡ at (x .s2) → n ≡ 3 → none ≡ valueIn nodes literals m g t x
+      pub gives-no-third : (a b : ℕ) → some a ≡ at (x .s0) → some b ≡ at (x .s1) → none ≡ at (x .s2) → n ≡ 3 → none ≡ valueBy m at x
       gives-no-third a b p q s h = sym (value-three (sym e ∙ h) (omega arith) ∙ rw (← p, ← q, ← s))
 
 -- ---- a step
@@ -425,15 +422,15 @@ module _ (nodes literals : List ℕ) (m : ℕ) (o : Modulus m) (g : Lent) (t : T
   value-below x = by (needs-of m (x .op)) (ltb (x .count) 1) refl
     where
       by : Needs m (x .op) → (b : Bool) → ltb (x .count) 1 ≡ b → Below m (valueIn nodes literals m g t x)
-      by (no-step z e) b f = below-same m (value-no nodes literals m g t x e) (below-none m)
-      by (of-one z e) true f = below-same m (value-few nodes literals m g t x (omega (arith, ltb-true (x .count) 1 f))) (below-none m)
-      by (of-one z e) false f = λ v q. read-below m o t k nodes literals g (x .s0) v (sym q ∙ value-one nodes literals m g t x z (ltb-false (x .count) 1 f))
+      by (no-step z e) b f = below-same m (value-no m (readIn nodes literals m g t) x e) (below-none m)
+      by (of-one z e) true f = below-same m (value-few m (readIn nodes literals m g t) x (omega (arith, ltb-true (x .count) 1 f))) (below-none m)
+      by (of-one z e) false f = λ v q. read-below m o t k nodes literals g (x .s0) v (sym q ∙ value-one m (readIn nodes literals m g t) x z (ltb-false (x .count) 1 f))
       by (of-two z p e h) b f =
-          below-same m (value-by nodes literals m g t x p e ∙ h (reads nodes literals m g t x (x .count)))
-          (below-two m (reads nodes literals m g t x (x .count)) (binaryNo m (x .op)) (λ a b. binary-below m (x .op) a b o))
+          below-same m (value-by m (readIn nodes literals m g t) x p e ∙ h (reads m (readIn nodes literals m g t) x (x .count)))
+          (below-two m (reads m (readIn nodes literals m g t) x (x .count)) (binaryNo m (x .op)) (λ a b. binary-below m (x .op) a b o))
       by (of-three z e) b f =
-          below-same m (value-by nodes literals m g t x StepOp.muladd e)
-          (below-three m (reads nodes literals m g t x (x .count)) (λ u v w. ((u * v) % m + w) % m) (λ u v w. mod-below ((u * v) % m + w) m o))
+          below-same m (value-by m (readIn nodes literals m g t) x StepOp.muladd e)
+          (below-three m (reads m (readIn nodes literals m g t) x (x .count)) (λ u v w. ((u * v) % m + w) % m) (λ u v w. mod-below ((u * v) % m + w) m o))
 
   set-below : (vs : List ℕ) (n i v : ℕ) → ((j : ℕ) → j < n → getD vs j 0 < m) → v < m → i < length vs → (j : ℕ) → j < n → getD (set vs i v) j 0 < m
   set-below vs n i v h l s j q = by (eqb j i) refl
