@@ -10,3 +10,5 @@ pub mod Valued
 pub mod Holding
 pub mod Simulation
 pub mod Marks
+pub mod Presence
+pub mod Evaluates

@@ -6,4 +6,5 @@ pub mod Cells
 pub mod Machine
 pub mod Keyed
 pub mod Presence
+pub mod Answer
 pub mod Laws

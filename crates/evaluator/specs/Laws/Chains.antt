@@ -22,7 +22,7 @@ id-small key = mod-lt key (omega arith)
 
 -- ---- no cells
 
-zeros : (n b : ℕ) → _≡_ {A = ℕ} (getD (replicate n 0) b 0) 0
+pub zeros : (n b : ℕ) → _≡_ {A = ℕ} (getD (replicate n 0) b 0) 0
 zeros n b = by (ltb b n) refl
   where
     by : (t : Bool) → ltb b n ≡ t → _≡_ {A = ℕ} (getD (replicate n 0) b 0) 0

@@ -28,7 +28,7 @@ use Rattle.evaluator.specs.declared.cells.Found.the-variants as found
 
 -- ---- members of a list by number
 
-nth-there : {A : Type 0} (l : List A) (n : ℕ) → n < length l → (a : A) × (nth l n ≡ some a)
+pub nth-there : {A : Type 0} (l : List A) (n : ℕ) → n < length l → (a : A) × (nth l n ≡ some a)
 nth-there [] n h = absurd (omega arith)
 nth-there (x ∷ l) zero h = (x, refl)
 nth-there (x ∷ l) (suc n) h = nth-there l n (omega arith)
