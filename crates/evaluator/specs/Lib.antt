@@ -8,3 +8,4 @@ pub mod Keyed
 pub mod Presence
 pub mod Answer
 pub mod Laws
+pub mod Exactly

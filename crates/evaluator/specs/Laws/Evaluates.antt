@@ -97,7 +97,7 @@ module _ (l : List ℕ) (b : Bytes l) where
 
 -- ---- the bytes of the answer
 
-valued-length : (s : Store ℕ) (cs : List Cell) → length (valuedBy s cs) ≡ length cs
+pub valued-length : (s : Store ℕ) (cs : List Cell) → length (valuedBy s cs) ≡ length cs
 unfolding valuedBy
 valued-length s [] = refl
 valued-length s (c ∷ cs) = ap suc (valued-length s cs)
