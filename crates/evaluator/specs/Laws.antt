@@ -12,3 +12,5 @@ pub mod Simulation
 pub mod Marks
 pub mod Presence
 pub mod Evaluates
+pub mod ReadBack
+pub mod Written
