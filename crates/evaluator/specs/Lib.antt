@@ -9,3 +9,4 @@ pub mod Presence
 pub mod Answer
 pub mod Laws
 pub mod Exactly
+pub mod Computed
