@@ -24,7 +24,8 @@ use Rattle.output.specs.Whole.{whole-says}
 use Rattle.evaluator.specs.Given.{Lent, given}
 use Rattle.evaluator.specs.Evaluation.{cellLimit, written, Valued, valuedBy, valuedSize, evaluation}
 use Rattle.evaluator.specs.Exactly.{fits}
-use Rattle.evaluator.specs.Laws.ReadBack.{StepInTwo, list-back, list-good}
+use Rattle.evaluator.specs.Laws.ReadBack.{list-back, list-good}
+use Rattle.evaluator.specs.Laws.Rows.{first-in}
 use Rattle.evaluator.specs.Laws.Written.{run-covers, valued-member, written-few}
 
 -- ── the statement ────────────────────────────────────────────────────────────
@@ -43,11 +44,12 @@ module _ (w : List ℕ) (b : Rest) (g : Lent) (m : ℕ) where
 
   -- ── the proof ──────────────────────────────────────────────────────────────
   module _ (pooled : Pooled w b) (modulus : 2 ≤ m) (acyclic : Acyclic (forest (poolOf w b))) (fed : Throughout (Fed 2 (given m g)) (forest (poolOf w b))) where
-    -- OF ANY LIST THAT COMPUTES the requests, with references of this row and the next
-    pub list-evaluates :
-        (qs : List Request) (s : Segment) → Each NoResult qs → whole 2 (forest (poolOf w b)) qs ≡ done s → Each StepInTwo (s .first)
+    -- OF ACCEPTED REQUESTS, plain or primed, none of which asks for a result
+    pub first-evaluates :
+        (qs : List Request) (s : Segment) → Each NoResult qs → Each (λ q. q .row < 2) qs → whole 2 (forest (poolOf w b)) qs ≡ done s
         → (room : ℕ) → length (s .first) ≤ cellLimit → valuedSize * length (s .first) ≤ room → Evaluates (s .first) qs room
-    list-evaluates qs s plain e rows room few fit =
+    first-evaluates qs s plain inRows e room few fit =
+        let rows = first-in (forest (poolOf w b)) qs s plain inRows e in
         let y = then-done (serveAll 2 (forest (poolOf w b)) qs start) _ e in
         let c = subst (λ (z : Segment). Computes (modulo m) (given m g) (forest (poolOf w b)) (z .first) qs) (done-same _ _ (y .2))
         (demand3-fed (modulo m) 2 (given m g) (forest (poolOf w b)) acyclic fed qs plain (y .0) (y .1)) in
@@ -60,10 +62,12 @@ module _ (w : List ℕ) (b : Rest) (g : Lent) (m : ℕ) where
           values = valuedBy (c .end) (written (s .first));
           answer = a;
           each = each-both (HeldFor (modulo m) (given m g) (forest (poolOf w b)) (c .end)) (ValueFor (modulo m) (given m g) (forest (poolOf w b)) (c .end)) _
-              (λ q h v.
-              (h .0, sym v ∙ h .1,
-              valued-member (c .end) (written (s .first)) (expCell (q .expression) (q .row)) (h .0)
-              (run-covers (modulo m) (given m g) (s .first) empty (c .end) [] (λ d u z. absurd (Option·none-ne-some u z)) (c .runs) (expCell (q .expression) (q .row)) (h .0) (h .1))
-              (h .1)))
+              (λ q h v. (
+                h .0,
+                sym v ∙ h .1,
+                valued-member (c .end) (written (s .first)) (expCell (q .expression) (q .row)) (h .0)
+                    (run-covers (modulo m) (given m g) (s .first) empty (c .end) [] (λ d u z. absurd (Option·none-ne-some u z)) (c .runs) (expCell (q .expression) (q .row)) (h .0) (h .1))
+                    (h .1),
+              ))
               qs (c .held) (c .values);
         }

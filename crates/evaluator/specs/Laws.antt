@@ -14,3 +14,4 @@ pub mod Presence
 pub mod Evaluates
 pub mod ReadBack
 pub mod Written
+pub mod Rows
