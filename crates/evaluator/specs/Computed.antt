@@ -19,13 +19,14 @@ use Rattle.meaning.specs.Proved.{demand3-fed}
 use Rattle.meaning.specs.Laws.Tests.{then-done, done-same, each-both, each-map}
 use Rattle.pool.specs.Trees.{forest}
 use Rattle.starkinfo_codegen.specs.Encoding.{encoded}
-use Rattle.starkinfo_codegen.specs.Emitting.{Rest, poolOf, Pooled}
+use Rattle.pool.specs.Laws.Tabled.{node-count}
+use Rattle.starkinfo_codegen.specs.Emitting.{Rest, tablesOf, poolOf, Pooled}
 use Rattle.output.specs.Whole.{whole-says}
 use Rattle.evaluator.specs.Given.{Lent, given}
 use Rattle.evaluator.specs.Evaluation.{cellLimit, written, Valued, valuedBy, valuedSize, evaluation}
 use Rattle.evaluator.specs.Exactly.{fits}
 use Rattle.evaluator.specs.Laws.ReadBack.{list-back, list-good}
-use Rattle.evaluator.specs.Laws.Rows.{first-in}
+use Rattle.evaluator.specs.Laws.Rows.{first-in, first-few}
 use Rattle.evaluator.specs.Laws.Written.{run-covers, valued-member, written-few}
 
 -- ── the statement ────────────────────────────────────────────────────────────
@@ -47,14 +48,15 @@ module _ (w : List ℕ) (b : Rest) (g : Lent) (m : ℕ) where
     -- OF ACCEPTED REQUESTS, plain or primed, none of which asks for a result
     pub first-evaluates :
         (qs : List Request) (s : Segment) → Each NoResult qs → Each (λ q. q .row < 2) qs → whole 2 (forest (poolOf w b)) qs ≡ done s
-        → (room : ℕ) → length (s .first) ≤ cellLimit → valuedSize * length (s .first) ≤ room → Evaluates (s .first) qs room
-    first-evaluates qs s plain inRows e room few fit =
+        → (room : ℕ) → valuedSize * length (s .first) ≤ room → Evaluates (s .first) qs room
+    first-evaluates qs s plain inRows e room fit =
         let rows = first-in (forest (poolOf w b)) qs s plain inRows e in
         let y = then-done (serveAll 2 (forest (poolOf w b)) qs start) _ e in
         let c = subst (λ (z : Segment). Computes (modulo m) (given m g) (forest (poolOf w b)) (z .first) qs) (done-same _ _ (y .2))
         (demand3-fed (modulo m) 2 (given m g) (forest (poolOf w b)) acyclic fed qs plain (y .0) (y .1)) in
         let says = whole-says (poolOf w b) (pooled .shaped) 2 qs s e in
         let n = written-few (s .first) [] in
+        let l = first-few (poolOf w b) (pooled .shaped) (rw (node-count (tablesOf w b)) (pooled .few)) acyclic qs s plain inRows e in
         let a
         = fits w (b .literals) g m (encoded (s .first)) room (s .first) (c .end) (modulus, list-good w b (pooled .few) (s .first) says rows)
         (record { steps = list-back w b (pooled .few) (s .first) says; runs = c .runs }) (omega arith, omega arith) in

@@ -1,15 +1,16 @@
--- The rows of a generated list: every reference in the first list of accepted requests is of a row that is there.
+-- The first list of accepted requests: every reference is of a row that is there, and it has no more steps than document 01 makes room for.
 -- Assumes nothing.
-use Prim.Native.Nat.{ℕ, _+_, _<_}
+use Prim.Native.Nat.{ℕ, _+_, _<_, _≤_}
 use mathlib.Core.Path.{_≡_, refl, sym, _∙_, subst}
 use mathlib.Core.Bool.{Bool, true, false}
 use mathlib.Core.Option.{Option, none, some, Option·none-ne-some}
 use mathlib.Core.List.{List, [], _∷_, _++_}
 use mathlib.Core.Logic.{_↔_}
 use native.Mathlib.Omega.{arith}
+use lib.ListN.{length}
 use borrow.Author.Tests.{ltb-true}
 use Rattle.meaning.specs.Refusals.{Answer, done, refused, _then_}
-use Rattle.meaning.specs.Trees.{Leaf, Placed, _at_, Expr, Expression, Forest, nth, leaves, Each}
+use Rattle.meaning.specs.Trees.{Leaf, Placed, _at_, Expr, Expression, Forest, nth, leaves, Each, Acyclic}
 use Rattle.meaning.specs.Steps.{Cell, Ref, StepOp, Step, step, tmpRef, expCell}
 use Rattle.meaning.specs.Emission.{leafRef, Own, Emitted, Settled, settle, settled, emit, rootStep, blockSteps}
 use Rattle.meaning.specs.Order.{Marks, Job, Asked, asked, there, ask, unmarked}
@@ -22,6 +23,11 @@ use Rattle.meaning.specs.Laws.Tests.{each-left, each-right, each-join, then-don
 use Rattle.meaning.specs.Laws.Jobs.{InRows, AllFine, asks}
 use Rattle.meaning.specs.Laws.Fuse.{asked-leaves}
 use Rattle.meaning.specs.Laws.Once.{all-rows}
+use Rattle.frames.specs.Order.{nodeLimit}
+use Rattle.pool.specs.Pool.{Pool}
+use Rattle.pool.specs.Trees.{forest}
+use Rattle.pool.specs.Shaped.{Shaped}
+use Rattle.starkinfo_codegen.specs.Totals.{room-suffices}
 use Rattle.evaluator.specs.Laws.ReadBack.{InTwo, StepInTwo}
 
 -- ---- emission
@@ -142,3 +148,15 @@ module _ (E : Forest) where
       let p : adding E a start ≡ y .0 = done-same _ _ (z .2) in
       let q : segment E (y .0) ≡ s = done-same _ _ (y .2) in
       subst (λ (v : Segment). Each StepInTwo (v .first)) q (subst (λ (v : State). Each StepInTwo (segment E v .first)) p k)
+
+-- AND IT HAS AT MOST 8,192 STEPS, two for each node
+pub first-few :
+    (p : Pool) → Shaped p → length (p .nodes) ≤ nodeLimit → Acyclic (forest p) → (qs : List Request) (s : Segment) → Each NoResult qs → Each (λ q. q .row < 2) qs
+    → whole 2 (forest p) qs ≡ done s → length (s .first) ≤ 8192
+first-few p shaped few acyclic qs s plain rows e =
+    let y = then-done (serveAll 2 (forest p) qs start) _ e in
+    let z = then-done (askAll 2 (forest p) qs unmarked) (λ a. done (adding (forest p) a start)) (sym (serveAll-asks 2 (forest p) qs plain start) ∙ y .1) in
+    let k = room-suffices p shaped few acyclic qs unmarked (z .0) 0 rows (z .1) in
+    let u : adding (forest p) (z .0) start ≡ y .0 = done-same _ _ (z .2) in
+    let q : segment (forest p) (y .0) ≡ s = done-same _ _ (y .2) in
+    subst (λ (v : Segment). length (v .first) ≤ 8192) q (subst (λ (v : State). length (segment (forest p) v .first) ≤ 8192) u k)
