@@ -10,3 +10,4 @@ pub mod Answer
 pub mod Laws
 pub mod Exactly
 pub mod Computed
+pub mod Conditions

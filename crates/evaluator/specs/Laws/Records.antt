@@ -32,7 +32,7 @@ ref-bad r b e h =
 
 -- ---- a record
 
-false-right : (a : Bool) → (a && false) ≡ false
+pub false-right : (a : Bool) → (a && false) ≡ false
 false-right true = refl
 false-right false = refl
 
@@ -119,7 +119,7 @@ good-append (x ∷ xs) ys = by (goodRecord x) (good-append xs ys)
     by true e = e
     by false e = refl
 
-good-more : (l : List ℕ) (n : ℕ) → goodRecords (stepsOf l (suc n)) ≡ (goodRecords (stepsOf l n) && goodRecord (stepAt l (stepSize * n)))
+pub good-more : (l : List ℕ) (n : ℕ) → goodRecords (stepsOf l (suc n)) ≡ (goodRecords (stepsOf l n) && goodRecord (stepAt l (stepSize * n)))
 unfolding goodRecords
 good-more l n = rw (steps-more l n, good-append) (rw (true-right (goodRecord (stepAt l (stepSize * n)))))
 
@@ -133,7 +133,7 @@ module _ (l : List ℕ) (k : ℕ) (x : bytes.Step) (e : x ≡ stepAt l (stepSize
       let z : goodRecord (stepAt l (stepSize * k)) ≡ true = rw (← e) (sym f ∙ g) in
       rw (add-one k, good-more l k, h, z)
 
-  bad-later : (n : ℕ) → k < n → goodRecord (stepAt l (stepSize * k)) ≡ false → goodRecords (stepsOf l n) ≡ false
+  pub bad-later : (n : ℕ) → k < n → goodRecord (stepAt l (stepSize * k)) ≡ false → goodRecords (stepsOf l n) ≡ false
   bad-later zero h z = absurd (omega arith)
   bad-later (suc n) h z = by (eq-or-lt-of-le {n = k} {m = n} (omega arith)) (bad-later n)
     where
