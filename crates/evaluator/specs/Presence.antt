@@ -24,9 +24,7 @@ classNo k =
     cond (eqb k kind.cm) 0
     (cond (eqb k kind.exp) 1 (cond (eqb k kind.q) 2 (cond (eqb k kind.tmp) 3 (cond (eqb k kind.f) 4 (cond (eqb k kind.tmpExp) 5 6)))))
 
-abbrev pub classCount : ℕ
-classCount = 7
-
+-- two primes of 65,536 ids for each class
 abbrev pub slotCount : ℕ
 slotCount = 917504
 

@@ -6,15 +6,17 @@ use kinds::reference::Reference;
 ghost use mathlib.Core.Path.{_≡_};
 ghost use Prim.Native.Nat.{ℕ, _+_, _≤_, _<_};
 ghost use lib.ListN.{getD, set};
-ghost use Rattle.evaluator.specs.Cells.{idLimit, keyNo, placeNo, writableNo, idIn, indexOf, Chained, FindAsked, Adds};
+ghost use Rattle.evaluator.specs.Evaluation.{cellLimit};
+ghost use Rattle.evaluator.specs.Cells.{keyNo, placeNo, writableNo, idIn, indexOf, Chained, FindAsked, Adds};
 
 pub const CELL_LIMIT: usize = 16384;
 
 pub const ID_LIMIT: usize = 65536;
 
-const ID_KEYS: u32 = ID_LIMIT as u32;
+// A key is kind, prime and id in one number.
+pub const ID_KEYS: u32 = ID_LIMIT as u32;
 
-const PRIMES: u32 = 2;
+pub const PRIMES: u32 = 2;
 
 pub enum Found {
     At(usize),
@@ -85,7 +87,7 @@ pub fn add(
     key: u32,
     value: u64,
 )
-    requires { ⌜ n < 16384 ⌝ }
+    requires { ⌜ n < cellLimit ⌝ }
     ensures { λ _. ⌜ Adds (now (heads .entry)) (now (nexts .entry)) (now (keys .entry)) (now (values .entry)) n key value (now (heads .exit)) (now (nexts .exit)) (now (keys .exit)) (now (values .exit)) ⌝ }
 {
     let id = id_of(key);

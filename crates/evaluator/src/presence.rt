@@ -1,5 +1,6 @@
 // Does a list run at all? Asked only of a list that writes more cells than the table has room for, where 10 goes before 9. It needs no values: one
 // mark for each cell that a step may write.
+use crate::cells;
 use crate::cells::ID_LIMIT;
 use crate::cells::is_writable;
 use crate::given::Value;
@@ -21,7 +22,7 @@ ghost use Rattle.evaluator.specs.Presence.{isKnown, classNo, SlotIs, slo
 
 const CLASSES: usize = 7;
 
-const PRIMES: usize = 2;
+const PRIMES: usize = cells::PRIMES as usize;
 
 const SLOTS: usize = CLASSES * PRIMES * ID_LIMIT;
 

@@ -1,5 +1,7 @@
 // The answer's bytes: 12 for each cell, its kind, prime, id (2) and value (8), the high byte first.
 use crate::cells::CELL_LIMIT;
+use crate::cells::ID_KEYS;
+use crate::cells::PRIMES;
 use kinds::big_endian::put_two;
 use kinds::big_endian::put_u16;
 ghost use mathlib.Core.Path.{_≡_};
@@ -10,10 +12,6 @@ ghost use Rattle.output.specs.Output.{u32Bytes, u64Bytes};
 ghost use Rattle.evaluator.specs.Keyed.{keyedBytes, keyedTo, KeyedAsks, KeyedAllAsk};
 
 pub const VALUED_SIZE: usize = 12;
-
-const IDS: u32 = 65536;
-
-const PRIMES: u32 = 2;
 
 // The places of a cell's parts after its kind and prime.
 const ID: usize = 2;
@@ -43,10 +41,10 @@ fn put_keyed(out: &mut [u8], at: usize, key: u32, value: u64)
     put_two(
         out,
         at,
-        (key / IDS / PRIMES) as u8,
-        (key / IDS % PRIMES) as u8,
+        (key / ID_KEYS / PRIMES) as u8,
+        (key / ID_KEYS % PRIMES) as u8,
     );
-    put_u16(out, at + ID, (key % IDS) as u16);
+    put_u16(out, at + ID, (key % ID_KEYS) as u16);
     put_u64(out, at + VALUE, value);
 }
 

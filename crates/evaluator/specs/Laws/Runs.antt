@@ -26,11 +26,6 @@ module _ (r : Ran) (hs ns ks vs : List ℕ) (o : Outcome) (e : ranTo r hs ns ks 
   told-cells n h = rw h at e
 
 module _ (nodes literals : List ℕ) (m : ℕ) (g : Lent) where
-  after-after : (o : Outcome) (f h : Table → Outcome) → after (after o f) h ≡ after o (λ u. after (f u) h)
-  after-after (next t) f h = refl
-  after-after noRule f h = refl
-  after-after over f h = refl
-
   pub runs-append :
       (xs ys : List bytes.Step) (t : Table) → runTo nodes literals m g t (xs ++ ys) ≡ after (runTo nodes literals m g t xs) (λ u. runTo nodes literals m g u ys)
   unfolding runTo
