@@ -4,13 +4,14 @@ use Prim.Native.Nat.{ℕ, _*_, _<_, _≤_}
 use mathlib.Core.Path.{_≡_, refl, sym, _∙_, ap}
 use mathlib.Core.Bool.{Bool, true, false, cond, _&&_}
 use mathlib.Core.Option.{Option, none, some, Option·none-ne-some}
-use mathlib.Core.List.{List}
+use mathlib.Core.List.{List, []}
 use mathlib.Core.Logic.{_⊎_, inl, inr, _↔_}
 use native.Mathlib.Omega.{arith}
 use lib.ListN.{length}
 use lib.Dec.{leb}
 use borrow.Author.Tests.{le-leb, lt-leb, leb-true, leb-false}
-use Rattle.meaning.specs.Refusals.{Refusal, Answer, done, refused, answerNo}
+use Rattle.meaning.specs.Refusals.{Refusal, Answer, done, refused, answerNo, _then_}
+use Rattle.meaning.specs.Trees.{Each}
 use Rattle.meaning.specs.Values.{bind}
 use Rattle.meaning.specs.Models.{modulo}
 use Rattle.meaning.specs.Steps.{Step}
@@ -20,6 +21,7 @@ use Rattle.evaluator.specs.Decoding.{recordsIn, goodList, stepsFrom}
 use Rattle.evaluator.specs.Evaluation.{cellLimit, written, Valued, valuedBy, valuedSize, computed, fitting, ruled, evaluation}
 use Rattle.evaluator.specs.Answer.{answerSays, EvaluationIs}
 use Rattle.evaluator.specs.Laws.Evaluates.{valued-length}
+use Rattle.evaluator.specs.Laws.Written.{Has, run-has}
 use Rattle.evaluator.specs.declared.evaluate.Evaluation.{Evaluation}
 use Rattle.evaluator.specs.declared.evaluate.Evaluation.the-variants as answer
 
@@ -182,6 +184,23 @@ module _ (nodes literals : List ℕ) (g : Lent) (m : ℕ) (list : List ℕ) (roo
       by (is-refused w c e) = inr (inr (inr (ap answerNo e)))
       by (is-too-many xs s w r c e) = inr (inr (inl (ap answerNo e)))
       by (is-done xs s w r c e) = inl (ap answerNo e)
+
+-- ── of the entry point ───────────────────────────────────────────────────────
+-- the number of what it answers is that of the definition's answer
+pub number-is :
+    (nodes literals : List ℕ) (g : Lent) (m : ℕ) (list out : List ℕ) {out′ : List ℕ} {r : Evaluation}
+    → EvaluationIs nodes literals g m list out out′ r → answerNo (answerSays r) ≡ answerNo (evaluation nodes literals g m list (length out))
+number-is nodes literals g m list out e = ap answerNo (e .says) ∙ by (evaluation nodes literals g m list (length out))
+  where
+    by : (a : Answer (List Valued)) → answerNo (a then λ vs. done (length vs)) ≡ answerNo a
+    by (done vs) = refl
+    by (refused k n) = refl
+
+-- every cell of an answer holds the value that stands beside it
+pub all-valued :
+    (nodes literals : List ℕ) (g : Lent) (m : ℕ) (list : List ℕ) (room : ℕ) (xs : List Step) (s : Store ℕ) → Ends nodes literals g m list room xs s
+    → Each (Has (modulo m) (given m g) s) (written xs)
+all-valued nodes literals g m list room xs s e = run-has (modulo m) (given m g) xs empty s [] tt (e .runs)
 
 -- ── only one outcome fits ────────────────────────────────────────────────────
 says-same : (r q : Evaluation) → answerSays r ≡ answerSays q → r ≡ q

@@ -8,13 +8,13 @@ use mathlib.Core.List.{List, [], _∷_, _++_}
 use mathlib.Core.Logic.{_⊎_, inl, inr}
 use native.Mathlib.Omega.{arith}
 use lib.ListN.{length, length-append}
-use Rattle.meaning.specs.Trees.{Member}
+use Rattle.meaning.specs.Trees.{Each, Member}
 use Rattle.meaning.specs.Values.{Algebra, Given, bind}
 use Rattle.meaning.specs.Steps.{Cell, same, place, Ref, Step}
 use Rattle.meaning.specs.Running as running
 use Rattle.meaning.specs.Running.{Store, writable, computes, exec, run}
-use Rattle.meaning.specs.Laws.Tests.{bind-some}
-use Rattle.meaning.specs.Laws.Cells.{same-eq}
+use Rattle.meaning.specs.Laws.Tests.{bind-some, each-join, each-map}
+use Rattle.meaning.specs.Laws.Cells.{same-eq, same-refl}
 use Rattle.evaluator.specs.Evaluation.{isAmong, adding, writing, writtenAfter, Valued, heldIn, valuedBy}
 
 member-left : {A : Type 0} (a : A) (xs ys : List A) → Member a xs → Member a (xs ++ ys)
@@ -82,6 +82,51 @@ module _ (𝓐 : Algebra) (G : Given (𝓐 .A)) where
       let a = bind-some (exec 𝓐 G x s) (λ s₁. run 𝓐 G xs s₁) e in
       let b = bind-some (computes 𝓐 G s (x .op) (x .sources)) (λ v. running.write s (x .destination) v) (a .1) in
       run-covers xs (a .0) s′ (writing (x .destination) ds) (write-covers s (a .0) ds (x .destination) (b .0) h (b .2)) (a .2)
+
+  -- EVERY CELL WRITTEN HOLDS A VALUE at the end of a run
+  abbrev pub Has : Store (𝓐 .A) → Cell → Type 0
+  Has s c = (v : 𝓐 .A) × (s c ≡ some v)
+
+  set-has : (s : Store (𝓐 .A)) (p : Cell) (v : 𝓐 .A) (c : Cell) → Has s c → Has (running.set s p v) c
+  set-has s p v c h = by (same p c)
+    where
+      by : (b : Bool) → (u : 𝓐 .A) × (cond b (some v) (s c) ≡ some u)
+      by true = (v, refl)
+      by false = h
+
+  set-here : (s : Store (𝓐 .A)) (p : Cell) (v : 𝓐 .A) → Has (running.set s p v) p
+  set-here s p v = (v, rw (same-refl p))
+
+  adding-has-values : (s : Store (𝓐 .A)) (ds : List Cell) (p : Cell) (v : 𝓐 .A) → Each (Has s) ds → Each (Has (running.set s p v)) (adding p ds)
+  unfolding adding
+  adding-has-values s ds p v h = by (isAmong p ds)
+    where
+      older : Each (Has (running.set s p v)) ds
+      older = each-map (Has s) (Has (running.set s p v)) (set-has s p v) ds h
+
+      by : (b : Bool) → Each (Has (running.set s p v)) (cond b ds (ds ++ (p ∷ [])))
+      by true = older
+      by false = each-join (Has (running.set s p v)) ds (p ∷ []) older (set-here s p v, tt)
+
+  write-has : (s s′ : Store (𝓐 .A)) (ds : List Cell) (d : Ref) (v : 𝓐 .A) → Each (Has s) ds → running.write s d v ≡ some s′ → Each (Has s′) (writing d ds)
+  write-has s s′ ds (Ref.number l n) v h e = absurd (Option·none-ne-some s′ e)
+  write-has s s′ ds (Ref.var c) v h e = by (writable c) e
+    where
+      by : (b : Bool) → cond b (some (running.set s (place c) v)) none ≡ some s′ → Each (Has s′) (adding (place c) ds)
+      by true e =
+          let q : running.set s (place c) v ≡ s′ = cc in
+          subst (λ (z : Store (𝓐 .A)). Each (Has z) (adding (place c) ds)) q (adding-has-values s ds (place c) v h)
+      by false e = absurd (Option·none-ne-some s′ e)
+
+  pub run-has : (xs : List Step) (s s′ : Store (𝓐 .A)) (ds : List Cell) → Each (Has s) ds → run 𝓐 G xs s ≡ some s′ → Each (Has s′) (writtenAfter ds xs)
+  unfolding writtenAfter
+  run-has [] s s′ ds h e =
+      let q : s ≡ s′ = cc in
+      subst (λ (z : Store (𝓐 .A)). Each (Has z) ds) q h
+  run-has (x ∷ xs) s s′ ds h e =
+      let a = bind-some (exec 𝓐 G x s) (λ s₁. run 𝓐 G xs s₁) e in
+      let b = bind-some (computes 𝓐 G s (x .op) (x .sources)) (λ v. running.write s (x .destination) v) (a .1) in
+      run-has xs (a .0) s′ (writing (x .destination) ds) (write-has s (a .0) ds (x .destination) (b .0) h (b .2)) (a .2)
 
 -- it stands in the answer with its value
 pub valued-member : (s : Store ℕ) (cs : List Cell) (c : Cell) (v : ℕ) → Member c cs → s c ≡ some v → Member {A = Valued} (record { cell = c; value = v }) (valuedBy s cs)
