@@ -5,3 +5,4 @@ pub mod Written
 pub mod Committing
 pub mod Serving
 pub mod Building
+pub mod Exactly
