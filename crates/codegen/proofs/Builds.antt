@@ -51,7 +51,7 @@ use Rattle.codegen.specs.Serving.{OrMalformed}
 use Rattle.codegen.specs.Building.{Lists, lists, fitsAll, builtOn, AnsweredBuild, Builds, listsWith, sizes, builtSays, TellsBuilt, forestRead, BuildAsks}
 use Rattle.codegen.specs.declared.build.Built.{Built}
 use Rattle.codegen.specs.declared.build.Built.the-variants as built
-use Rattle.codegen.proofs.Loads as loads
+use Rattle.codegen.specs.Loads as loads
 use Rattle.codegen.proofs.Serves.{marks-size}
 
 fits-by :

@@ -47,8 +47,9 @@ use Rattle.context.specs.Held.{allSteps as wordSteps, loaded-held, good-sound, 
 use Rattle.codegen.specs.Said.{Said, said, adding}
 use Rattle.codegen.specs.Written.{raw-steps}
 use Rattle.codegen.specs.Committing.{CommitAsks, afterJobs}
-use Rattle.codegen.proofs.Loads.{blocks-same}
-use Rattle.codegen.proofs.Loads as loads
+use Rattle.codegen.specs.Made.{found-all, made-words, made-count, made-cells}
+use Rattle.codegen.specs.Loads.{blocks-same}
+use Rattle.codegen.specs.Loads as loads
 
 -- the steps of a list with more after it
 pub longer-steps : (l z : List ℕ) (i : ℕ) → stepSize * (i + 1) ≤ length l → stepAt (l ++ z) (stepSize * i) ≡ stepAt l (stepSize * i)
@@ -59,44 +60,6 @@ longer-steps l z i h = step-same (l ++ z) (stepSize * i) l (stepSize * i) (λ k 
 length-every : (bs cs : List RawBlock) → length (every (bs ++ cs)) ≡ length (every bs) + length (every cs)
 length-every [] cs = sym (zero-add (length (every cs)))
 length-every (b ∷ bs) cs = rw (length-append (b .records) (every (bs ++ cs)), length-append (b .records) (every bs), length-every bs cs) (omega arith)
-
-pub found-all : (w xs : List ℕ) (b : Rest) (js : List Job) → Each (JobThere b) js → Each (Found (E w xs b)) js
-found-all w xs b js h =
-    each-map (JobThere b) (Found (E w xs b)) (λ y t. forest-has (poolOf w b) (y .expression) (subst (λ m. y .expression < m) (sym (expression-count (tablesOf w b))) (t .0))) js h
-
-module _ (G : Forest) where
-  made-words : (js : List Job) (t : ℕ) → Each (Found G) js → wordsOf (make G js t .blocks) ≡ blockWords G js
-  made-words [] t h = refl
-  made-words (j ∷ js) t h = go (nth G (j .expression)) refl (λ u. made-words js u (h .1))
-    where
-      go :
-          (o : Option meaning.Expression) → nth G (j .expression) ≡ o → ((u : ℕ) → wordsOf (make G js u .blocks) ≡ blockWords G js) →
-          wordsOf (make G (j ∷ js) t .blocks) ≡ blockWords G (j ∷ js)
-      go none q ih = absurd (Option·none-ne-some (h .0 .0) (sym q ∙ h .0 .1))
-      go (some x) q ih =
-          let one = makeOne j (some x) t in
-          let n : length (building.every (one .blocks)) ≡ length (building.every (makeOne j (some x) 0 .blocks)) = steps-any j (some x) t in
-          rw (q, ← n, ih (one .counter)) (ap (λ v. (cellOf (j .expression) (j .row) + 1024 * v) ∷ blockWords G js) (sym (ap length (append-nil (blockSteps (emit (asked (j .fused) (x .tree)) (j .row) t) (Ref.var (expCell (j .expression) (j .row))))))))
-
-  made-count : (js : List Job) (t : ℕ) → Each (Found G) js → length (make G js t .blocks) ≡ length js
-  made-count js t h = sym (words-count (make G js t .blocks)) ∙ ap length (made-words js t h) ∙ block-count js
-    where
-      words-count : (bs : List Block) → length (wordsOf bs) ≡ length bs
-      words-count [] = refl
-      words-count (b ∷ bs) = ap suc (words-count bs)
-
-      block-count : (ys : List Job) → length (blockWords G ys) ≡ length ys
-      block-count [] = refl
-      block-count (y ∷ ys) = ap suc (block-count ys)
-
-  made-cells : (js : List Job) (t m : ℕ) → m ≤ 512 → Each (λ j. (j .expression < m) × (j .row < 2)) js → Each Celled (make G js t .blocks)
-  made-cells [] t m few h = tt
-  made-cells (j ∷ js) t m few h = go (nth G (j .expression)) refl (λ u. made-cells js u m few (h .1))
-    where
-      go :
-          (o : Option meaning.Expression) → nth G (j .expression) ≡ o → ((u : ℕ) → Each Celled (make G js u .blocks)) → Each Celled (make G (j ∷ js) t .blocks)
-      go none q ih = rw q (ih t)
-      go (some x) q ih = rw q ((omega (arith, h .0 .0), h .0 .1), ih (makeOne j (some x) t .counter))
 
 -- ── what was loaded ──────────────────────────────────────────────────────────
 module _ {w xs : List ℕ} {b : Rest} {js : List Job} {j s t x l : List ℕ} {n : ℕ} (a : CommitAsks w xs b js j s t x l n) where

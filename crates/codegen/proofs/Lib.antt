@@ -1,10 +1,8 @@
 -- Lemmas over plain variables, which the functions' proofs cite.
 pub mod Small
-pub mod Loads
 pub mod Commits
 pub mod Ends
 pub mod Coded
-pub mod Pigeons
 pub mod Serves
 pub mod Judges
 pub mod Builds

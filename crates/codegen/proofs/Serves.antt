@@ -50,7 +50,7 @@ use Rattle.codegen.specs.Committing.{servedSays, Tells, noWords, CommitA
 use Rattle.codegen.specs.Serving.{servedOn, ServeAsks}
 use Rattle.codegen.specs.declared.commit.Served.{Served}
 use Rattle.codegen.specs.declared.commit.Served.the-variants as served
-use Rattle.codegen.proofs.Pigeons.{table-room}
+use Rattle.codegen.specs.Pigeons.{table-room}
 
 pub refusal-tells : {k : Refusal} {o : Option ℕ} (a : Answer Said) (x l : List ℕ) (g : Served) → servedSays g ≡ refused k o → a ≡ refused k o → Tells a x l x l g
 refusal-tells a x l g p e = subst (λ (y : Answer Said). Tells y x l x l g) (sym e) (record { says = p; stands = (refl, refl) })

@@ -65,16 +65,16 @@ one-read Q only (done i) a b u v x y = only i a b (x i refl) (y i refl)
 one-read Q only (refused k o) a b u v x y = u k o refl ∙ sym (v k o refl)
 
 module _ (i : Input) (w : Wanted) (x l : List ℕ) where
-  abbrev end : Answer (Unit {0}) → Answer Said
+  abbrev pub end : Answer (Unit {0}) → Answer Said
   end v = v then λ _. servedOn (forest (poolOf i)) (asking (resultOf (w .kind) (w .id)) (requestsOf i)) (length l) (said x l)
 
-  abbrev Judged : Answer Said → Type 0
+  abbrev pub Judged : Answer Said → Type 0
   Judged a = (v : Answer (Unit {0})) × Verdict (poolOf i) [] v × (a ≡ end v)
 
-  abbrev Checked : Answer Said → Type 0
+  abbrev pub Checked : Answer Said → Type 0
   Checked a = (g : Bool) × Exactly g (Good x (length (i .expressions)) (length l)) × OrMalformed g a (Judged a)
 
-  abbrev AnsweredFor : Answer Said → Type 0
+  abbrev pub AnsweredFor : Answer Said → Type 0
   AnsweredFor a = Answered (poolOf i) (requestsOf i) (length (i .expressions)) (length (i .requests)) w x l a
 
   one-answered : (a b : Answer Said) → AnsweredFor a → AnsweredFor b → a ≡ b
@@ -255,20 +255,20 @@ pub record Overfull (i : Input) (w : Wanted) (x l : List ℕ) : Type 0 where
 
 module _ (i : Input) (w : Wanted) (x l : List ℕ) (a : Answer Said) (h : AnsweredFor i w x l a) where
   -- which of the checks decides
-  data Case : Type 0 where
+  pub data Case : Type 0 where
     badResult : resultGood (w .kind) (w .id) (length (i .requests)) ≡ false → answerNo a ≡ 1 → Case
     badContext : resultGood (w .kind) (w .id) (length (i .requests)) ≡ true → (Good x (length (i .expressions)) (length l) → ⊥) → answerNo a ≡ 1 → Case
-    stopped : resultGood (w .kind) (w .id) (length (i .requests)) ≡ true → Good x (length (i .expressions)) (length l) → (Admitted i → ⊥) → (answerNo a ≡ 1 → ⊥) → (answerNo a ≡ 9 → ⊥) → Case
+    stopped : resultGood (w .kind) (w .id) (length (i .requests)) ≡ true → Good x (length (i .expressions)) (length l) → (Admitted i → ⊥) → (answerNo a ≡ 0 → ⊥) → (answerNo a ≡ 1 → ⊥) → (answerNo a ≡ 9 → ⊥) → Case
     ran : resultGood (w .kind) (w .id) (length (i .requests)) ≡ true → Good x (length (i .expressions)) (length l) → Admitted i → a ≡ end i w x l (done tt) → Case
 
-  case : Case
+  pub case : Case
   case = result (resultGood (w .kind) (w .id) (length (i .requests))) refl h
     where
       judged : resultGood (w .kind) (w .id) (length (i .requests)) ≡ true → Good x (length (i .expressions)) (length l) → Judged i w x l a → Case
       judged p g (done u, j, e) = let k = exactly-0 (poolOf i) (done u) j .0 refl in Case.ran p g (record { shaped = k .0; acyclic = k .1 }) e
       judged p g (refused k o, j, e) =
           let n = verdict-only i k o j in
-          Case.stopped p g (λ d. number-not-zero k (exactly-0 (poolOf i) (refused k o) j .1 (d .shaped, d .acyclic))) (λ q. n .0 (sym (ap answerNo e) ∙ q)) (λ q. n .1 (sym (ap answerNo e) ∙ q))
+          Case.stopped p g (λ d. number-not-zero k (exactly-0 (poolOf i) (refused k o) j .1 (d .shaped, d .acyclic))) (λ q. number-not-zero k (sym (ap answerNo e) ∙ q)) (λ q. n .0 (sym (ap answerNo e) ∙ q)) (λ q. n .1 (sym (ap answerNo e) ∙ q))
 
       context : resultGood (w .kind) (w .id) (length (i .requests)) ≡ true → (g : Bool) → Exactly g (Good x (length (i .expressions)) (length l)) → OrMalformed g a (Judged i w x l a) → Case
       context p true ex t = judged p (ex .0 refl) t
@@ -295,14 +295,14 @@ module _ (i : Input) (w : Wanted) (x l : List ℕ) (a : Answer Said) (h : Answer
       to : Case → answerNo a ≡ 1 → BadRecord i w x l
       to (Case.badResult p n) q = inl p
       to (Case.badContext p g n) q = inr (p, g)
-      to (Case.stopped p g d n m) q = absurd (n q)
+      to (Case.stopped p g d z n m) q = absurd (n q)
       to (Case.ran p g d e) q = absurd (not-1 (answerNo a) (subst (λ (z : Answer Said). Served (answerNo z) ⊎ (answerNo z ≡ 9)) (sym e) (served-only (forest (poolOf i)) (d .acyclic) qs (length l) (said x l))) q)
 
       from : Case → BadRecord i w x l → answerNo a ≡ 1
       from (Case.badResult p n) b = n
       from (Case.badContext p g n) b = n
-      from (Case.stopped p g d n m) (inl b) = absurd (true-false p b)
-      from (Case.stopped p g d n m) (inr b) = absurd (b .1 g)
+      from (Case.stopped p g d z n m) (inl b) = absurd (true-false p b)
+      from (Case.stopped p g d z n m) (inr b) = absurd (b .1 g)
       from (Case.ran p g d e) (inl b) = absurd (true-false p b)
       from (Case.ran p g d e) (inr b) = absurd (b .1 g)
 
@@ -312,7 +312,7 @@ module _ (i : Input) (w : Wanted) (x l : List ℕ) (a : Answer Said) (h : Answer
       to : Case → answerNo a ≡ 9 → Overfull i w x l
       to (Case.badResult p n) q = absurd (omega (arith, n, q))
       to (Case.badContext p g n) q = absurd (omega (arith, n, q))
-      to (Case.stopped p g d n m) q = absurd (m q)
+      to (Case.stopped p g d z n m) q = absurd (m q)
       to (Case.ran p g d e) q =
           let o = served-9 (forest (poolOf i)) (d .acyclic) qs (length l) (said x l) .0 (sym (ap answerNo e) ∙ q) in
           record { result = p; good = g; admitted = d; after = o .0; served = o .1; over = o .2 }
@@ -320,7 +320,7 @@ module _ (i : Input) (w : Wanted) (x l : List ℕ) (a : Answer Said) (h : Answer
       from : Case → Overfull i w x l → answerNo a ≡ 9
       from (Case.badResult p n) o = absurd (true-false (o .result) p)
       from (Case.badContext p g n) o = absurd (g (o .good))
-      from (Case.stopped p g d n m) o = absurd (d (o .admitted))
+      from (Case.stopped p g d z n m) o = absurd (d (o .admitted))
       from (Case.ran p g d e) o = ap answerNo e ∙ served-9 (forest (poolOf i)) (o .admitted .acyclic) qs (length l) (said x l) .1 (o .after, o .served, o .over)
 
 -- OF REQUESTS ON LENT BYTES

@@ -3,6 +3,10 @@ pub mod Said
 pub mod Results
 pub mod Written
 pub mod Committing
+pub mod Loads
+pub mod Made
+pub mod Pigeons
 pub mod Serving
 pub mod Building
 pub mod Exactly
+pub mod Sessions
