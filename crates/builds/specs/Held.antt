@@ -1,38 +1,25 @@
--- Tables that hold the blocks of a context of `meaning`: with blocks added, with a result's copy put in, and the lists of a build.
+-- Tables that hold the blocks of a context of `meaning`, and tables with blocks added.
 -- Assumes nothing.
 use Prim.Native.Nat.{ℕ, zero, suc, _+_, _*_, _/_, _%_, _<_, _≤_}
 use mathlib.Core.Path.{_≡_, refl, sym, _∙_, ap}
-use mathlib.Core.Bool.{Bool}
-use mathlib.Core.Option.{Option, none, some, Option·none-ne-some, Option·some-injective}
 use mathlib.Core.List.{List, [], _∷_, _++_}
 use mathlib.Core.Logic.{inl}
 use native.Mathlib.Nat.{zero-add, add-zero, add-suc, suc-add}
 use native.Mathlib.Omega.{arith}
-use lib.ListN.{length, getD, set, take, drop, length-append}
+use lib.ListN.{length, getD, take, drop, length-append}
 use lib.Seq.{take-at, drop-at}
-use Rattle.meaning.specs.Trees.{Each, Forest}
-use Rattle.meaning.specs.Steps as typed
-use Rattle.meaning.specs.Generation.{Block, State, copyInto}
-use Rattle.meaning.specs.Building.{every, Segment, segment}
+use Rattle.meaning.specs.Trees.{Each}
+use Rattle.meaning.specs.Generation.{Block}
+use Rattle.meaning.specs.Building.{every}
 use Rattle.kinds.specs.Write.{write}
-use Rattle.kinds.specs.Steps.{stepSize, stepsOf, stepsBytes, step-kept, steps-length, steps-split, steps-joined}
+use Rattle.kinds.specs.Steps.{stepSize, stepsOf, step-kept, steps-length, steps-split, steps-joined}
 use Rattle.frames.specs.Tables.{first}
 use Rattle.frames.specs.Packing.{first-same}
-use Rattle.pool.specs.Trees.{forest}
-use Rattle.starkinfo_codegen.specs.Encoding.{refOf, records, records-append, records-length, encoded}
-use Rattle.starkinfo_codegen.specs.Emitting.{Rest, poolOf}
+use Rattle.starkinfo_codegen.specs.Encoding.{records, records-append, records-length, encoded}
 use Rattle.starkinfo_codegen.specs.Ordering.{cellOf}
-use Rattle.builds.specs.Raw as raw
-use Rattle.builds.specs.Raw.{RawBlock, cellIn, stepsIn, startOf, recordsFrom, rawBlockAt, rawBlocks, rawSegment, flaggedIn}
-use Rattle.builds.specs.RawOf.{rawOf, rawAnswer, rawLists, raw-append, raw-segment, raw-copy}
+use Rattle.builds.specs.Raw.{RawBlock, cellIn, stepsIn, startOf, recordsFrom, rawBlockAt, rawBlocks}
+use Rattle.builds.specs.RawOf.{rawOf}
 use Rattle.builds.specs.Starts.{records-split, records-same, start-next, start-le, from, first-from}
-use Rattle.builds.specs.Flags.{flags-in}
-use Rattle.builds.specs.Lists.{listOf, listIn}
-use Rattle.builds.specs.Results.{findBlock, inserted}
-use Rattle.builds.specs.Copies.{copy-nowhere, copy-put}
-use Rattle.builds.specs.declared.build.Which.{Which}
-use Rattle.builds.specs.declared.build.Which.the-variants as which
-use Rattle.builds.specs.declared.result.Found.the-variants as found
 
 -- ── definitions ──────────────────────────────────────────────────────────────
 -- a block's word
@@ -56,12 +43,6 @@ pub record InTables (t l : List ℕ) (n at : ℕ) (bs : List Block) : Type 0 whe
   pub cells : Each Celled bs
   pub words : (k : ℕ) → k < length bs → getD t (n + k) 0 ≡ getD (wordsOf bs) k 0
   pub steps : recordsFrom l at (length (every bs)) ≡ records (every bs)
-
--- the list of a segment
-abbrev pub typedList : Which → Segment → List typed.Step
-typedList which.First s = s .first
-typedList which.I s = s .i
-typedList which.Last s = s .last
 
 -- ── laws ─────────────────────────────────────────────────────────────────────
 parts : {A : Type 0} (xs ys us vs : List A) → length xs ≡ length ys → xs ++ us ≡ ys ++ vs → (xs ≡ ys) × (us ≡ vs)
@@ -146,51 +127,3 @@ module _ (t l t′ : List ℕ) (n : ℕ) (cs : List Block) (same : (k : ℕ) →
 
     pub raw-added : rawBlocks t′ put (n + length cs) ≡ rawBlocks t l n ++ rawOf cs
     raw-added = first-from (rawBlockAt t′ put) n (length cs) ∙ rw (first-same (rawBlockAt t l) (rawBlockAt t′ put) n before-same, added)
-
-    pub held-added : (bs : List Block) → Held t l n bs → Held t′ put (n + length cs) (bs ++ cs)
-    held-added bs held = raw-added ∙ rw held (sym (raw-append bs cs))
-
--- A RESULT'S COPY put into tables that hold blocks: they hold the blocks with the copy
-module _ (t l : List ℕ) (n e r : ℕ) (d : typed.Ref) (row : r < 2) (bs : List Block) (held : Held t l n bs) where
-  over-raw : rawAnswer (copyInto e r d bs) ≡ raw.copyInto e r (refOf d) (rawBlocks t l n)
-  over-raw = sym (raw-copy e r d bs) ∙ ap (raw.copyInto e r (refOf d)) (sym held)
-
-  pub held-nowhere : findBlock t n (cellOf e r) ≡ found.Nothing → copyInto e r d bs ≡ none
-  held-nowhere h = go (copyInto e r d bs) (over-raw ∙ copy-nowhere t l n e r (refOf d) row h)
-    where
-      go : (o : Option (List Block)) → rawAnswer o ≡ none → o ≡ none
-      go none q = refl
-      go (some cs) q = absurd (Option·none-ne-some (rawOf cs) (sym q))
-
-  pub held-copied :
-      (k : ℕ) → findBlock t n (cellOf e r) ≡ found.At k → n ≤ length t → 1 ≤ stepsIn (getD t k 0) → stepSize * (startOf t n + 1) ≤ length l →
-      (cs : List Block) × (copyInto e r d bs ≡ some cs) × Held (set t k (getD t k 0 + 1024)) (inserted l (startOf t (suc k)) (startOf t n) (refOf d)) n cs
-  held-copied k h few enough room = go (copyInto e r d bs) (over-raw ∙ copy-put t l n e r (refOf d) row k h few enough room)
-    where
-      after : List RawBlock
-      after = rawBlocks (set t k (getD t k 0 + 1024)) (inserted l (startOf t (suc k)) (startOf t n) (refOf d)) n
-
-      go : (o : Option (List Block)) → rawAnswer o ≡ some after → (cs : List Block) × (o ≡ some cs) × (after ≡ rawOf cs)
-      go none q = absurd (Option·none-ne-some after q)
-      go (some cs) q = (cs, refl, sym (Option·some-injective _ _ q))
-
--- THE LIST OF A BUILD of tables that hold a context's blocks is the list of its segment
-pub list-held :
-    (t l nodes : List ℕ) (b : Rest) (st : State) (n : ℕ) (w : Which) → Held t l n (st .blocks) →
-    stepsBytes (listIn t (b .expressions) l n (b .expressionCount) w) ≡ encoded (typedList w (segment (forest (poolOf nodes b)) st))
-unfolding encoded
-list-held t l nodes b st n w h = ap stepsBytes (ap (listOf w) whole ∙ go w)
-  where
-    E : Forest
-    E = forest (poolOf nodes b)
-
-    whole : rawSegment (flaggedIn (b .expressions) (b .expressionCount)) (rawBlocks t l n) ≡ rawLists (segment E st)
-    whole =
-        ap (rawSegment (flaggedIn (b .expressions) (b .expressionCount))) h
-        ∙ ap (λ (f : ℕ → Bool). rawSegment f (rawOf (st .blocks))) (sym (flags-in nodes b))
-        ∙ raw-segment E st
-
-    go : (w : Which) → listOf w (rawLists (segment E st)) ≡ records (typedList w (segment E st))
-    go which.First = refl
-    go which.I = refl
-    go which.Last = refl

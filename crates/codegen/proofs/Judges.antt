@@ -37,7 +37,7 @@ use Rattle.requests.specs.Runs.{requestsOf}
 use Rattle.requests.specs.Reads.{ReadInto, read-is, pool-is, requests-are}
 use Rattle.context.specs.Context.{Good, Exactly}
 use Rattle.codegen.specs.Said.{Said, said}
-use Rattle.codegen.specs.Results.{kindAmong, resultKinds, resultFrom, resultOf, asking, resultGood}
+use Rattle.codegen.specs.Results.{resultOf, asking, resultGood, no-result, asking-none}
 use Rattle.codegen.specs.Committing.{servedSays, Tells}
 use Rattle.codegen.specs.Serving.{OrMalformed, servedOn, Answered, Serves, ServeAsks}
 use Rattle.codegen.specs.declared.asked.Wanted.{Wanted}
@@ -46,16 +46,6 @@ use Rattle.codegen.specs.declared.commit.Served.the-variants as served
 use Rattle.codegen.proofs.Serves.{refusal-tells}
 
 -- ── asking for a result or for none ──────────────────────────────────────────
--- none is asked for by kind 0
-asking-none : (qs : List Request) → Each NoResult qs → asking none qs ≡ qs
-asking-none [] h = refl
-asking-none (q ∷ []) h = ap (λ (o : Option Result). record { expression = q .expression; row = q .row; fused = q .fused; result = o } ∷ []) (sym (h .0))
-asking-none (q ∷ p ∷ qs) h = ap (λ (z : List Request). q ∷ z) (asking-none (p ∷ qs) (h .1))
-
-no-result : (id : ℕ) → resultOf 0 id ≡ none
-unfolding resultOf
-no-result id = refl
-
 module _ (w : Wanted) (count : ℕ) where
   module _ (good : resultGood (w .kind) (w .id) count ≡ true) (asked : w .kind ≡ 0 → ⊥) where
     both-hold : (isResult (w .kind) && ltb 0 count) ≡ true

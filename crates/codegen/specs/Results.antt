@@ -10,9 +10,10 @@ use native.Mathlib.Omega.{arith}
 use native.Mathlib.Nat.{not-suc-le-zero, le-of-suc-le-suc, eq-or-lt-of-le}
 use lib.Dec.{eqb, ltb, leb}
 use borrow.Author.Tests.{eqb-true, ne-eqb, lt-leb, ltb-true, ltb-false}
-use Rattle.meaning.specs.Trees.{RowKind, FlatKind, XKind}
+use Rattle.meaning.specs.Trees.{RowKind, FlatKind, XKind, Each}
 use Rattle.meaning.specs.Steps.{BareKind, Kind, kindNo}
 use Rattle.meaning.specs.Generation.{Result, result, Request}
+use Rattle.meaning.specs.Demand3.{NoResult}
 use Rattle.meaning.specs.Laws.Tests.{true-false, and-left, and-right}
 use Rattle.kinds.specs.Range.{within}
 use Rattle.kinds.specs.Kinds.{isLeaf, isReference, isResult}
@@ -100,3 +101,13 @@ kind-of kind h = go (kindAmong resultKinds kind) refl
     go : (o : Option Kind) → kindAmong resultKinds kind ≡ o → (k : Kind) × (kindAmong resultKinds kind ≡ some k) × (kindNo k ≡ kind)
     go none e = absurd (true-false is-named (rw (h, e)))
     go (some k) e = (k, e, among-is resultKinds kind k e)
+
+-- ── none is asked for by kind 0 ──────────────────────────────────────────────
+pub no-result : (id : ℕ) → resultOf 0 id ≡ none
+unfolding resultOf
+no-result id = refl
+
+pub asking-none : (qs : List Request) → Each NoResult qs → asking none qs ≡ qs
+asking-none [] h = refl
+asking-none (q ∷ []) h = ap (λ (o : Option Result). record { expression = q .expression; row = q .row; fused = q .fused; result = o } ∷ []) (sym (h .0))
+asking-none (q ∷ p ∷ qs) h = ap (λ (z : List Request). q ∷ z) (asking-none (p ∷ qs) (h .1))

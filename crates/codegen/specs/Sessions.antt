@@ -5,7 +5,7 @@ use Prim.Native.Nat.{ℕ, zero, suc, _+_, _*_, _-_, _/_, _%_, _<_, _≤_}
 use mathlib.Core.Path.{_≡_, refl, sym, _∙_, ap, subst, fun-ext}
 use mathlib.Core.Bool.{Bool, true, false, _&&_, _||_, cond}
 use mathlib.Core.Option.{Option, none, some}
-use mathlib.Core.List.{List, [], _∷_, _++_, map}
+use mathlib.Core.List.{List, [], _∷_, _++_}
 use mathlib.Core.Logic.{_⊎_, inl, inr, ⊎-elim}
 use native.Mathlib.Omega.{arith}
 use native.Mathlib.Nat.{zero-add}
@@ -37,7 +37,6 @@ use Rattle.frames.specs.Reading.{framesIn, readFrom, reading}
 use Rattle.frames.specs.Exactly.{read-as}
 use Rattle.frames.specs.Limits.{within-all}
 use Rattle.frames.specs.Ranges.{ranged-all}
-use Rattle.frames.specs.declared.rest.Request as frame
 use Rattle.frames.specs.Tables.{first}
 use Rattle.frames.specs.Packing.{first-at, first-length}
 use Rattle.pool.specs.Trees.{forest}
@@ -47,9 +46,9 @@ use Rattle.starkinfo_codegen.specs.Encoding.{records, records-length}
 use Rattle.starkinfo_codegen.specs.Ordering.{cellOf, marksOf}
 use Rattle.starkinfo_codegen.specs.Requests.{start-marks}
 use Rattle.starkinfo_codegen.specs.Totals.{Found}
-use Rattle.requests.specs.Planning.{requestOf}
 use Rattle.requests.specs.Runs.{requestsOf}
 use Rattle.requests.specs.Serving.{plain-requests}
+use Rattle.requests.specs.Exactly.{rows-low}
 use Rattle.builds.specs.Raw.{RawBlock, RawSegment, rawBlockAt, rawBlocks, recordsFrom, every}
 use Rattle.builds.specs.RawOf.{rawOf, raw-every}
 use Rattle.builds.specs.Held.{wordsOf, Celled, held-all, held-none}
@@ -59,7 +58,7 @@ use Rattle.context.specs.Zeros.{zeros-at}
 use Rattle.context.specs.Held.{held-words, fresh-held}
 use Rattle.context.specs.Stored as stored
 use Rattle.codegen.specs.Said.{Said, said, saidOf, serveSaid, serve-said, segmentSaid, segment-said}
-use Rattle.codegen.specs.Results.{resultOf, asking}
+use Rattle.codegen.specs.Results.{resultOf, asking, no-result, asking-none}
 use Rattle.codegen.specs.Written.{markByte, markBytes, rawWords, stepCount, contextWith, ListWith, fits, fitting}
 use Rattle.codegen.specs.Serving.{servedOn}
 use Rattle.codegen.specs.Loads as loads
@@ -227,11 +226,6 @@ after-bounded m (j ∷ js) b h = after-bounded (marking m (j .expression) (j .ro
         go false p v q = b e r n
 
 -- ── one call ─────────────────────────────────────────────────────────────────
-asking-none : (qs : List Request) → Each NoResult qs → asking none qs ≡ qs
-asking-none [] h = refl
-asking-none (q ∷ []) h = ap (λ (o : Option Result). record { expression = q .expression; row = q .row; fused = q .fused; result = o } ∷ []) (sym (h .0))
-asking-none (q ∷ p ∷ qs) h = ap (λ (z : List Request). q ∷ z) (asking-none (p ∷ qs) (h .1))
-
 -- requests without a result, in so many words
 abbrev pub plainly : Wanted
 plainly = record { kind = 0; id = 0 }
@@ -249,10 +243,6 @@ module _ (i : Input) (x l : List ℕ) (st : State) (holds : Holds x l st) (few :
     pub admitted : Admitted i
     pub served : servedOn E Q (length l) (said x l) ≡ done a
 
-  no-result : resultOf 0 0 ≡ none
-  unfolding resultOf
-  no-result = refl
-
   ran : Ran
   ran = go (case i plainly x l (done a) answered)
     where
@@ -264,7 +254,7 @@ module _ (i : Input) (x l : List ℕ) (st : State) (holds : Holds x l st) (few :
           record {
             good = g;
             admitted = d;
-            served = sym (e ∙ ap (λ (qs : List Request). servedOn E qs (length l) (said x l)) (ap (λ (o : Option Result). asking o Q) no-result ∙ asking-none Q (plain-requests (i .requests))));
+            served = sym (e ∙ ap (λ (qs : List Request). servedOn E qs (length l) (said x l)) (ap (λ (o : Option Result). asking o Q) (no-result 0) ∙ asking-none Q (plain-requests (i .requests))));
           }
 
   -- what fits is the answer
@@ -356,10 +346,6 @@ pub data Session (E : Forest) : List Request → List ℕ → List ℕ → Type 
   served :
       (qs : List Request) (x l : List ℕ) → Session E qs x l → (s : List ℕ) (i : Input) → reading s ≡ done i → forest (poolOf i) ≡ E →
       (a : Said) → AnsweredFor i plainly x l (done a) → (x′ l′ : List ℕ) → x′ ≡ contextWith x a → ListWith l a l′ → Session E (qs ++ requestsOf i) x′ l′
-
-rows-low : (qs : List frame.Request) → Each (λ q. (q .prime ≤ 1) × (q .muladd ≤ 1)) qs → Each (λ q. q .row < 2) (map requestOf qs)
-rows-low [] h = tt
-rows-low (q ∷ qs) h = (omega (arith, h .0 .0), rows-low qs (h .1))
 
 -- what it holds is what `serveAll` gives of all its requests
 pub session-holds : (E : Forest) {qs : List Request} {x l : List ℕ} → Session E qs x l → (st : State) × (serveAll 2 E qs start ≡ done st) × Holds x l st

@@ -33,7 +33,7 @@ use Rattle.requests.specs.Whole.{served, Answers}
 use Rattle.requests.specs.Runs.{requestsOf, Runs}
 use Rattle.requests.specs.Serving.{stepRoom, plain-requests, served-whole}
 
-rows-low : (qs : List frame.Request) → Each (λ q. (q .prime ≤ 1) × (q .muladd ≤ 1)) qs → Each (λ q. q .row < 2) (map requestOf qs)
+pub rows-low : (qs : List frame.Request) → Each (λ q. (q .prime ≤ 1) × (q .muladd ≤ 1)) qs → Each (λ q. q .row < 2) (map requestOf qs)
 rows-low [] h = tt
 rows-low (q ∷ qs) h = (omega (arith, h .0 .0), rows-low qs (h .1))
 
