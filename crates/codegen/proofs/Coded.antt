@@ -25,7 +25,7 @@ use Rattle.context.specs.Context.{blocksAt, marksAt, cells, contextSize}
 use Rattle.context.specs.Tables.{counterBytes, withCounters, withMarks, withBlocks, Read16, MarksAsk, CountersAsk, StoreAsks}
 use Rattle.context.specs.Held.{storedIn}
 use Rattle.codegen.specs.Written.{markByte, markBytes, fits, fitting}
-use Rattle.codegen.specs.Committing.{CommitAsks, Tells, copied, StoreAsked, PutAsked}
+use Rattle.codegen.specs.Committing.{stepBound, CommitAsks, Tells, copied, StoreAsked, PutAsked}
 use Rattle.codegen.specs.declared.commit.Served.the-variants as served
 use Rattle.codegen.proofs.Commits.{G, B, at, T, t′, after}
 use Rattle.codegen.proofs.Ends.{fits-all, plain-full, place-asks, make-room, plain-store, plain-done, no-block, result-full, put-asked, result-store, result-done}
@@ -62,7 +62,7 @@ cell-split c = omega arith
 
 -- ── committed ────────────────────────────────────────────────────────────────
 module _ {w xs : List ℕ} {b : Rest} {js : List Job} {j s t x l : List ℕ} {n : ℕ} (a : CommitAsks w xs b js j s t x l n) {v : ℕ} (z : SizeIs w xs b js n v) {bk ak tk : ℕ} (rb : Read16 (B a) bk) (ra : Read16 (at a) ak) (rt : Read16 (T a) tk) where
-  pub sizes : (n ≤ v) × (ak + v + 1 ≤ 8388608) × (tk + v ≤ 8388608) × (bk + n ≤ cells)
+  pub sizes : (n ≤ v) × (ak + v + 1 ≤ stepBound) × (tk + v ≤ stepBound) × (bk + n ≤ cells)
   sizes = (z .some, omega (arith, ra .small, z .small, a .room), omega (arith, rt .small, z .small, a .room), omega (arith, rb .is, a .room))
 
   pub code-place : PlaceAsks w xs b js j t n bk

@@ -51,6 +51,10 @@ pub record Tells (a : Answer Said) (x l x′ l′ : List ℕ) (r : Served) : Typ
   pub stands : Stands a x l x′ l′
 
 -- ── what is asked ────────────────────────────────────────────────────────────
+-- more steps than a context of 65,535 and 1,024 jobs of at most 4,096 each make
+abbrev pub stepBound : ℕ
+stepBound = 8388608
+
 abbrev pub noWords : List ℕ
 noWords = replicate 1024 0
 

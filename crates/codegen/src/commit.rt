@@ -24,7 +24,7 @@ ghost use lib.ListN.{length, getD, set};
 ghost use Rattle.builds.specs.Raw.{startOf};
 ghost use Rattle.builds.specs.Results.{inserted};
 ghost use Rattle.codegen.specs.Written.{fits};
-ghost use Rattle.codegen.specs.Committing.{CommitAsked, PlainGiven, ResultGiven, PutAsked};
+ghost use Rattle.codegen.specs.Committing.{stepBound, CommitAsked, PlainGiven, ResultGiven, PutAsked};
 
 // A number of a step, too, is below the limit of a temporary's.
 const STEP_LIMIT: usize = TEMPORARY_LIMIT;
@@ -47,7 +47,7 @@ pub enum Served {
 }
 
 fn has_room(list: &[u8], steps: usize, temporaries: usize) -> bool
-    requires { ⌜ steps ≤ 8388608 ⌝ }
+    requires { ⌜ steps ≤ stepBound ⌝ }
     ensures { λ r. ⌜ r ≡ fits (length (now (list .entry))) steps temporaries ⌝ }
 {
     if list.len() < STEP_SIZE * steps {
