@@ -140,7 +140,7 @@ fn print(seed: u64, all: &Part) {
     let row = |name: &str, value: u64| println!("| {:<28} | {:>10} |", name, value);
     row("Seed", seed);
     println!("|---|---|");
-    row("Sessions, all equal", all.sessions);
+    row("Sessions equal", all.sessions);
     row("Calls that serve", all.tally.serves);
     row("Requests in these", all.tally.requests);
     row("Of these for a result", all.tally.results);

@@ -68,7 +68,8 @@ fn literal_of(pool: &Pool, node: usize) -> Option<Literal> {
 /// What a context says, and how many steps. None where it has what no context of this pool has.
 pub fn said(context: &[u8], expressions: usize) -> Option<(State, Vec<Block>, usize)> {
     let marks = &context[MARKS_AT..TABLE_AT];
-    let is_strange = |(cell, &mark): (usize, &u8)| mark > 1 || mark != 0 && cell / ROWS >= expressions;
+    let is_strange =
+        |(cell, &mark): (usize, &u8)| mark > 1 || mark != 0 && cell / ROWS >= expressions;
     if context[..BLOCKS_AT] != HEAD || marks.iter().enumerate().any(is_strange) {
         return None;
     }

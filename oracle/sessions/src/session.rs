@@ -30,11 +30,14 @@ pub struct Setting {
 }
 
 impl Setting {
-    /// Half of the sessions are grouped; of twenty, two have a tight list and two tight lists of builds.
+    /// Half of the sessions are grouped; of twenty two have a tight list, and two tight lists of
+    /// builds.
     pub fn of(index: u64) -> Setting {
         let tight = (index / 20 % 16) as usize;
         let room = |places: [u64; 2]| if places.contains(&(index % 20)) { tight } else { ROOM };
-        Setting { grouped: index % 2 == 1, list: room([7, 14]), built: room([3, 16]) }
+        // Large sessions have the same place in each thousand.
+        let grouped = (index + index / 1000) % 2 == 1;
+        Setting { grouped, list: room([7, 14]), built: room([3, 16]) }
     }
 }
 
