@@ -63,6 +63,10 @@ impl StepBytes {
         Ok(StepBytes(bytes))
     }
 
+    pub fn bytes(&self) -> &[u8] {
+        &self.0
+    }
+
     pub fn is(&self, step: Step) -> bool {
         self.0[0] == step.byte()
     }

@@ -28,7 +28,10 @@ pub fn run(script: &Script) -> Result<Vec<Answer>, String> {
     on_large_stack(|| Original::new(&script.pool).answer_all(&script.commands))
 }
 
-fn on_large_stack<T: Send>(work: impl FnOnce() -> Result<T, String> + Send) -> Result<T, String> {
+/// Runs work that calls the original: on a stack that its recursion fits, its panics unprinted.
+pub fn on_large_stack<T: Send>(
+    work: impl FnOnce() -> Result<T, String> + Send,
+) -> Result<T, String> {
     silence_the_original();
     thread::scope(|scope| {
         thread::Builder::new()
@@ -64,10 +67,13 @@ fn text_of(payload: Box<dyn Any + Send>) -> String {
 }
 
 /// The original's context, and the pool as the original holds it.
-struct Original {
+pub struct Original {
     context: Context,
     pil: PIL,
 }
+
+/// A context set aside, to go back to after a refusal.
+pub struct Saved(Context);
 
 /// How a call of `pil_code_gen` ended.
 #[derive(Debug)]
@@ -78,7 +84,7 @@ enum Outcome {
 }
 
 impl Original {
-    fn new(pool: &Pool) -> Original {
+    pub fn new(pool: &Pool) -> Original {
         let context =
             Context { exp_id: 0, tmp_used: 0, code: Vec::new(), calculated: HashMap::new() };
         Original { context, pil: pil(pool) }
@@ -99,7 +105,7 @@ impl Original {
         Ok(answers)
     }
 
-    fn request(&mut self, request: &Request) -> Result<Answer, String> {
+    pub fn request(&mut self, request: &Request) -> Result<Answer, String> {
         let foreseen = self.foresee(request);
         let outcome = self.generate(request);
         Ok(match refusal(foreseen, &outcome)? {
@@ -141,7 +147,7 @@ impl Original {
         }
     }
 
-    fn build(&mut self) -> Result<Answer, String> {
+    pub fn build(&mut self) -> Result<Answer, String> {
         let segment = build_code(&mut self.context, &self.pil);
         if segment.tmp_used != self.context.tmp_used || !self.context.code.is_empty() {
             return Err("the original's build left blocks, or moved its counter".to_string());
@@ -154,15 +160,30 @@ impl Original {
         })
     }
 
-    fn state(&self) -> State {
+    pub fn state(&self) -> State {
         let marks =
             |prime| (0..self.pil.expressions.len()).map(|e| self.is_marked(e, prime)).collect();
         State { counter: self.context.tmp_used, plain: marks(false), primed: marks(true) }
     }
 
-    fn blocks(&self) -> Vec<Block> {
+    pub fn blocks(&self) -> Vec<Block> {
         let block = |b: &Code| Block { expression: b.exp_id, prime: b.prime, steps: b.code.len() };
         self.context.code.iter().map(block).collect()
+    }
+
+    /// The steps of all blocks, in order.
+    pub fn steps(&self) -> Result<Vec<StepBytes>, String> {
+        self.context.code.iter().flat_map(|block| &block.code).map(StepBytes::of).collect()
+    }
+
+    pub fn saved(&self) -> Saved {
+        let Context { exp_id, tmp_used, ref code, ref calculated } = self.context;
+        let code = code.iter().map(|b| Code { code: b.code.clone(), ..*b }).collect();
+        Saved(Context { exp_id, tmp_used, code, calculated: calculated.clone() })
+    }
+
+    pub fn restore(&mut self, saved: Saved) {
+        self.context = saved.0;
     }
 
     fn is_marked(&self, expression: usize, prime: bool) -> bool {

@@ -169,7 +169,7 @@ impl Request {
     }
 
     /// The frame of the same request without the result that it asks for.
-    fn frame(&self) -> Vec<u8> {
+    pub fn frame(&self) -> Vec<u8> {
         let mut bytes = vec![REQUEST_FRAME];
         bytes.extend(self.expression.to_be_bytes());
         bytes.extend([u8::from(self.prime), u8::from(self.muladd)]);

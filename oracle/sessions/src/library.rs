@@ -1,0 +1,85 @@
+//! The exported functions of the crate `host`, on slices.
+
+/// Bytes of a context.
+pub const CONTEXT: usize = 7178;
+
+// A slice is a pointer and a length.
+extern "C" {
+    fn enonkasse_fresh(context: *mut u8, context_size: usize) -> u8;
+
+    fn enonkasse_serve(
+        frames: *const u8,
+        frames_size: usize,
+        kind: u8,
+        id: u16,
+        context: *mut u8,
+        context_size: usize,
+        list: *mut u8,
+        list_size: usize,
+    ) -> u8;
+
+    fn enonkasse_build(
+        frames: *const u8,
+        frames_size: usize,
+        context: *mut u8,
+        context_size: usize,
+        list: *const u8,
+        list_size: usize,
+        first: *mut u8,
+        first_size: usize,
+        i: *mut u8,
+        i_size: usize,
+        last: *mut u8,
+        last_size: usize,
+        sizes: *mut [usize; 3],
+    ) -> u8;
+}
+
+pub fn fresh(context: &mut [u8]) -> u8 {
+    // Safety: the slice is lent for the call alone, and the function has no precondition.
+    unsafe { enonkasse_fresh(context.as_mut_ptr(), context.len()) }
+}
+
+pub fn serve(frames: &[u8], kind: u8, id: u16, context: &mut [u8], list: &mut [u8]) -> u8 {
+    // Safety: as above; the slices do not overlap, since two of them are borrowed mutably.
+    unsafe {
+        enonkasse_serve(
+            frames.as_ptr(),
+            frames.len(),
+            kind,
+            id,
+            context.as_mut_ptr(),
+            context.len(),
+            list.as_mut_ptr(),
+            list.len(),
+        )
+    }
+}
+
+pub fn build(
+    frames: &[u8],
+    context: &mut [u8],
+    list: &[u8],
+    lists: &mut [Vec<u8>; 3],
+    sizes: &mut [usize; 3],
+) -> u8 {
+    let [first, i, last] = lists;
+    // Safety: as above.
+    unsafe {
+        enonkasse_build(
+            frames.as_ptr(),
+            frames.len(),
+            context.as_mut_ptr(),
+            context.len(),
+            list.as_ptr(),
+            list.len(),
+            first.as_mut_ptr(),
+            first.len(),
+            i.as_mut_ptr(),
+            i.len(),
+            last.as_mut_ptr(),
+            last.len(),
+            sizes,
+        )
+    }
+}

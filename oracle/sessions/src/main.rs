@@ -1,0 +1,156 @@
+//! The exported functions of the port and the original, on the same random sessions.
+
+mod library;
+mod record;
+mod session;
+
+use judge::pool::MAX_NODES;
+use judge::random;
+use judge::run::on_large_stack;
+use judge::script::Script;
+use judge::shrink::shrink;
+use session::{compare, Fault, Setting, Tally};
+use std::env;
+use std::process::ExitCode;
+use std::sync::atomic::{AtomicU64, Ordering};
+use std::thread;
+
+const HELP: &str = "\
+sessions SEED COUNT    compares the exported functions with the original on COUNT random sessions
+
+A session is a pool with requests, some asking for results, and builds, from a fresh context. A
+refused call must leave all that was lent as it was; the original is put back to before it, and
+both go on. At the first difference it stops, and prints as small a script as it finds.
+
+Exit status: 0; 1 if something differs; 2 if something could not be read or answered.
+";
+
+const DIFFERENT: u8 = 1;
+const FAILED: u8 = 2;
+
+const WORKERS: usize = 2;
+
+/// Nodes of a session that is larger than most.
+const HUNDREDS: usize = 300;
+
+fn main() -> ExitCode {
+    let words: Vec<String> = env::args().skip(1).collect();
+    let numbers: Option<Vec<u64>> = words.iter().map(|word| word.parse().ok()).collect();
+    match numbers.as_deref() {
+        Some(&[seed, count]) => run(seed, count).unwrap_or_else(|text| {
+            eprintln!("sessions: {}", text);
+            ExitCode::from(FAILED)
+        }),
+        _ => {
+            eprint!("{}", HELP);
+            ExitCode::from(FAILED)
+        }
+    }
+}
+
+/// Of a thousand sessions one is as large as can be, of a hundred one has hundreds of nodes.
+fn script(seed: u64, index: u64) -> Script {
+    let nodes = match index % 1000 {
+        999 => Some(MAX_NODES),
+        i if i % 100 == 98 => Some(HUNDREDS),
+        _ => None,
+    };
+    random::case(seed, index, nodes).script
+}
+
+/// What one worker compared, and the first difference that it found.
+#[derive(Default)]
+struct Part {
+    sessions: u64,
+    nodes: usize,
+    expressions: usize,
+    tally: Tally,
+    found: Option<(u64, String)>,
+}
+
+fn run(seed: u64, count: u64) -> Result<ExitCode, String> {
+    let (queue, end) = (AtomicU64::new(0), AtomicU64::new(count));
+    let work = || on_large_stack(|| compare_all(seed, &queue, &end));
+    let parts: Vec<Result<Part, String>> = thread::scope(|scope| {
+        let workers: Vec<_> = (0..WORKERS).map(|_| scope.spawn(work)).collect();
+        workers.into_iter().map(|worker| worker.join().expect("a worker")).collect()
+    });
+    let mut all = Part::default();
+    for part in parts {
+        let part = part?;
+        all.sessions += part.sessions;
+        all.nodes = all.nodes.max(part.nodes);
+        all.expressions = all.expressions.max(part.expressions);
+        all.tally.add(&part.tally);
+        all.found = all.found.into_iter().chain(part.found).min();
+    }
+    print(seed, &all);
+    match all.found {
+        None => Ok(ExitCode::SUCCESS),
+        Some((index, text)) => {
+            eprintln!("session {} of seed {} differs: {}", index, seed, text);
+            let (script, text) = smaller(script(seed, index), Setting::of(index), text)?;
+            eprint!("so does this one, asked as {:?}:\n{}", Setting::of(index), script);
+            eprintln!("{}", text);
+            Ok(ExitCode::from(DIFFERENT))
+        }
+    }
+}
+
+fn compare_all(seed: u64, queue: &AtomicU64, end: &AtomicU64) -> Result<Part, String> {
+    let mut part = Part::default();
+    loop {
+        let index = queue.fetch_add(1, Ordering::SeqCst);
+        if index >= end.load(Ordering::SeqCst) {
+            return Ok(part);
+        }
+        let script = script(seed, index);
+        match compare(&script, Setting::of(index)) {
+            Ok(tally) => {
+                part.sessions += 1;
+                part.nodes = part.nodes.max(script.pool.nodes().len());
+                part.expressions = part.expressions.max(script.pool.expressions().len());
+                part.tally.add(&tally);
+            }
+            Err(Fault::Differs(text)) => {
+                end.fetch_min(index, Ordering::SeqCst);
+                part.found = Some((index, text));
+                return Ok(part);
+            }
+            Err(Fault::Unanswered(text)) => {
+                end.fetch_min(index, Ordering::SeqCst);
+                return Err(format!("session {} of seed {}: {}", index, seed, text));
+            }
+        }
+    }
+}
+
+fn smaller(found: Script, setting: Setting, text: String) -> Result<(Script, String), String> {
+    on_large_stack(|| {
+        let shows = |script: &Script| matches!(compare(script, setting), Err(Fault::Differs(_)));
+        let script = shrink(&found, shows);
+        match compare(&script, setting) {
+            Err(Fault::Differs(text)) => Ok((script, text)),
+            _ => Ok((found, text)),
+        }
+    })
+}
+
+fn print(seed: u64, all: &Part) {
+    let row = |name: &str, value: u64| println!("| {:<28} | {:>10} |", name, value);
+    row("Seed", seed);
+    println!("|---|---|");
+    row("Sessions equal", all.sessions);
+    row("Calls that serve", all.tally.serves);
+    row("Requests in these", all.tally.requests);
+    row("Of these for a result", all.tally.results);
+    row("Builds", all.tally.builds);
+    for (number, &count) in &all.tally.refused {
+        row(&format!("Calls refused with {}", number), count);
+    }
+    row("Most nodes", all.nodes as u64);
+    row("Most expressions", all.expressions as u64);
+    row("Steps compared", all.tally.steps);
+    row("Of these muladd", all.tally.fused);
+    row("Longest list", all.tally.longest as u64);
+}

@@ -1,0 +1,90 @@
+//! The port's records in bytes, read as what the original says of the same things.
+
+use judge::answer::{Block, State};
+use judge::kinds::Kind;
+use judge::literal::Literal;
+use judge::pool::{Pool, MAX_EXPRESSIONS};
+
+/// Bytes of a step in a list: step, source count, origin (2), destination and three sources.
+pub const STEP: usize = 4 + 4 * REFERENCE;
+
+/// Kind, prime, id (2), dimension (2), p (2), tree position (2), extra (2).
+const REFERENCE: usize = 12;
+
+/// Places in a context.
+const HEAD: [u8; 4] = [0, 0, 2, 0];
+const BLOCKS_AT: usize = 4;
+const STEPS_AT: usize = 6;
+const COUNTER_AT: usize = 8;
+const MARKS_AT: usize = 10;
+const ROWS: usize = 2;
+const TABLE_AT: usize = MARKS_AT + ROWS * MAX_EXPRESSIONS;
+const ENTRY: usize = 6;
+
+fn u16_at(bytes: &[u8], at: usize) -> usize {
+    usize::from(u16::from_be_bytes([bytes[at], bytes[at + 1]]))
+}
+
+/// A step's record in document 01's output encoding, which is how the original's are compared.
+/// None where a record has what generation does not make.
+pub fn encoded(record: &[u8], pool: &Pool) -> Option<Vec<u8>> {
+    let (step, count) = (record[0], usize::from(record[1]));
+    let mut references = record[4..].chunks(REFERENCE);
+    let mut bytes = vec![step];
+    push_reference(references.next()?, pool, &mut bytes)?;
+    bytes.push(record[1]);
+    for (place, reference) in references.enumerate() {
+        if place < count {
+            push_reference(reference, pool, &mut bytes)?;
+        } else if reference.iter().any(|&byte| byte != 0) {
+            return None;
+        }
+    }
+    Some(bytes).filter(|_| count <= 3)
+}
+
+fn push_reference(record: &[u8], pool: &Pool, bytes: &mut Vec<u8>) -> Option<()> {
+    let (kind, prime, extra) = (record[0], record[1], u16_at(record, 10));
+    if record[4..10].iter().any(|&byte| byte != 0) {
+        return None;
+    }
+    bytes.extend([kind, record[2], record[3], prime]);
+    if kind != Kind::NUMBER.byte() {
+        return Some(()).filter(|_| extra == 0);
+    }
+    literal_of(pool, extra)?.write(bytes);
+    Some(())
+}
+
+/// What a node brings: neg brings 0.
+fn literal_of(pool: &Pool, node: usize) -> Option<Literal> {
+    let node = pool.nodes().get(node)?;
+    match node.kind {
+        Kind::NEG => Some(Literal::from(0)),
+        _ => node.literal,
+    }
+}
+
+/// What a context says, and how many steps. None where it has what no context of this pool has.
+pub fn said(context: &[u8], expressions: usize) -> Option<(State, Vec<Block>, usize)> {
+    let marks = &context[MARKS_AT..TABLE_AT];
+    let is_strange =
+        |(cell, &mark): (usize, &u8)| mark > 1 || mark != 0 && cell / ROWS >= expressions;
+    if context[..BLOCKS_AT] != HEAD || marks.iter().enumerate().any(is_strange) {
+        return None;
+    }
+    let row = |row: usize| (0..expressions).map(|e| marks[ROWS * e + row] != 0).collect();
+    let state = State { counter: u16_at(context, COUNTER_AT), plain: row(0), primed: row(1) };
+    let entry = |k: usize| {
+        let at = TABLE_AT + ENTRY * k;
+        let prime = u16_at(context, at + 2);
+        let block = |prime| Block {
+            expression: u16_at(context, at),
+            prime,
+            steps: u16_at(context, at + 4),
+        };
+        Some(block(prime == 1)).filter(|_| prime < ROWS)
+    };
+    let blocks = (0..u16_at(context, BLOCKS_AT)).map(entry).collect::<Option<_>>()?;
+    Some((state, blocks, u16_at(context, STEPS_AT)))
+}
