@@ -32,7 +32,7 @@ use Rattle.requests.specs.Runs.{requestsOf}
 use Rattle.starkinfo_codegen.specs.Encoding.{refOf}
 use Rattle.builds.specs.Raw.{RawBlock, RawSegment, copyInto}
 use Rattle.context.specs.Context.{Good, Exactly}
-use Rattle.codegen.specs.Said.{Said, said, withBlocks, copying, sayings, serveSaid, saidOf, serve-said}
+use Rattle.codegen.specs.Said.{Said, said, withBlocks, copying, sayings, serveSaid, saidOf, serve-said, segmentSaid}
 use Rattle.codegen.specs.Results.{resultOf, asking, resultGood}
 use Rattle.codegen.specs.Written.{stepCount, fits, fitting}
 use Rattle.codegen.specs.Serving.{OrMalformed, servedOn, Answered, Serves}
@@ -350,3 +350,118 @@ module _ (r : Answer Input) (w : Wanted) (x l : List ℕ) (a : Answer Said) (h :
       from (done i) e (inl n) = absurd (omega (arith, ap answerNo e, n))
       from (refused k o) e (inl n) = ap answerNo (h .unread k o e) ∙ sym (ap answerNo e) ∙ n
       from z e (inr (i, p, b)) = answered-9 i w x l a (h .read i p) .1 b
+
+-- OF A BUILD ON LENT BYTES
+-- some list has no room for its steps
+abbrev pub NoRoomFor : Lists → RawSegment → Type 0
+NoRoomFor o s =
+    (length (o .first) < stepSize * length (s .first)) ⊎ ((length (o .i) < stepSize * length (s .i)) ⊎ (length (o .last) < stepSize * length (s .last)))
+
+all-fit : (o : Lists) (s : RawSegment) → (fitsAll o s ≡ false) ↔ NoRoomFor o s
+unfolding fitsAll
+all-fit o s =
+    (to (leb (stepSize * length (s .first)) (length (o .first))) refl (leb (stepSize * length (s .i)) (length (o .i))) refl (leb (stepSize * length (s .last)) (length (o .last))) refl, from)
+  where
+    to :
+        (a : Bool) → leb (stepSize * length (s .first)) (length (o .first)) ≡ a → (b : Bool) → leb (stepSize * length (s .i)) (length (o .i)) ≡ b →
+        (c : Bool) → leb (stepSize * length (s .last)) (length (o .last)) ≡ c → (a && (b && c)) ≡ false → NoRoomFor o s
+    to false p b q c r h = inl (leb-false (stepSize * length (s .first)) (length (o .first)) p)
+    to true p false q c r h = inr (inl (leb-false (stepSize * length (s .i)) (length (o .i)) q))
+    to true p true q false r h = inr (inr (leb-false (stepSize * length (s .last)) (length (o .last)) r))
+    to true p true q true r h = absurd (true-false refl h)
+
+    no : (b : Bool) → (b && false) ≡ false
+    no true = refl
+    no false = refl
+
+    from :
+        NoRoomFor o s →
+        (leb (stepSize * length (s .first)) (length (o .first)) && (leb (stepSize * length (s .i)) (length (o .i)) && leb (stepSize * length (s .last)) (length (o .last)))) ≡ false
+    from (inl h) = rw (lt-leb (stepSize * length (s .first)) (length (o .first)) h)
+    from (inr (inl h)) = rw (lt-leb (stepSize * length (s .i)) (length (o .i)) h, no (leb (stepSize * length (s .first)) (length (o .first))))
+    from (inr (inr h)) =
+        rw (lt-leb (stepSize * length (s .last)) (length (o .last)) h, no (leb (stepSize * length (s .i)) (length (o .i))), no (leb (stepSize * length (s .first)) (length (o .first))))
+
+-- everything before the room is fine, and some list has none
+pub record OverfullBuild (i : Input) (x l : List ℕ) (o : Lists) : Type 0 where
+  pub good : Good x (length (i .expressions)) (length l)
+  pub admitted : Admitted i
+  pub over : NoRoomFor o (segmentSaid (forest (poolOf i)) (said x l))
+
+module _ (i : Input) (x l : List ℕ) (o : Lists) (a : Answer RawSegment) (h : AnsweredBuild (poolOf i) (length (i .expressions)) x l o a) where
+  abbrev seg : RawSegment
+  seg = segmentSaid (forest (poolOf i)) (said x l)
+
+  data BuildCase : Type 0 where
+    bad : (Good x (length (i .expressions)) (length l) → ⊥) → answerNo a ≡ 1 → BuildCase
+    stopped : Good x (length (i .expressions)) (length l) → (Admitted i → ⊥) → (answerNo a ≡ 1 → ⊥) → (answerNo a ≡ 9 → ⊥) → BuildCase
+    built : Good x (length (i .expressions)) (length l) → Admitted i → a ≡ builtOn (forest (poolOf i)) o (said x l) → BuildCase
+
+  build-case : BuildCase
+  build-case = go (h .0) (h .1) (h .2)
+    where
+      judged :
+          Good x (length (i .expressions)) (length l) →
+          ((v : Answer (Unit {0})) × Verdict (poolOf i) [] v × (a ≡ (v then λ _. builtOn (forest (poolOf i)) o (said x l)))) → BuildCase
+      judged g (done u, j, e) = let k = exactly-0 (poolOf i) (done u) j .0 refl in BuildCase.built g (record { shaped = k .0; acyclic = k .1 }) e
+      judged g (refused k n, j, e) =
+          let m = verdict-only i k n j in
+          BuildCase.stopped g (λ d. number-not-zero k (exactly-0 (poolOf i) (refused k n) j .1 (d .shaped, d .acyclic))) (λ q. m .0 (sym (ap answerNo e) ∙ q)) (λ q. m .1 (sym (ap answerNo e) ∙ q))
+
+      go :
+          (g : Bool) → Exactly g (Good x (length (i .expressions)) (length l)) →
+          OrMalformed g a ((v : Answer (Unit {0})) × Verdict (poolOf i) [] v × (a ≡ (v then λ _. builtOn (forest (poolOf i)) o (said x l)))) → BuildCase
+      go true ex t = judged (ex .0 refl) t
+      go false ex t = BuildCase.bad (λ g. true-false (ex .1 g) refl) (ap answerNo t)
+
+  room-number : (b : Bool) → (answerNo (cond b (done seg) (refused Refusal.full none)) ≡ 1 → ⊥) × ((answerNo (cond b (done seg) (refused Refusal.full none)) ≡ 9) ↔ (b ≡ false))
+  room-number true = (λ q. omega arith, (λ q. absurd (omega arith), λ q. absurd (true-false refl q)))
+  room-number false = (λ q. omega arith, (λ q. refl, λ q. refl))
+
+  pub built-1 : (answerNo a ≡ 1) ↔ (Good x (length (i .expressions)) (length l) → ⊥)
+  built-1 = (to build-case, from build-case)
+    where
+      to : BuildCase → answerNo a ≡ 1 → Good x (length (i .expressions)) (length l) → ⊥
+      to (BuildCase.bad n e) q g = n g
+      to (BuildCase.stopped g d n m) q k = n q
+      to (BuildCase.built g d e) q k = room-number (fitsAll o seg) .0 (sym (ap answerNo e) ∙ q)
+
+      from : BuildCase → (Good x (length (i .expressions)) (length l) → ⊥) → answerNo a ≡ 1
+      from (BuildCase.bad n e) b = e
+      from (BuildCase.stopped g d n m) b = absurd (b g)
+      from (BuildCase.built g d e) b = absurd (b g)
+
+  pub built-9 : (answerNo a ≡ 9) ↔ OverfullBuild i x l o
+  built-9 = (to build-case, from build-case)
+    where
+      to : BuildCase → answerNo a ≡ 9 → OverfullBuild i x l o
+      to (BuildCase.bad n e) q = absurd (omega (arith, e, q))
+      to (BuildCase.stopped g d n m) q = absurd (m q)
+      to (BuildCase.built g d e) q = record { good = g; admitted = d; over = all-fit o seg .0 (room-number (fitsAll o seg) .1 .0 (sym (ap answerNo e) ∙ q)) }
+
+      from : BuildCase → OverfullBuild i x l o → answerNo a ≡ 9
+      from (BuildCase.bad n e) b = absurd (n (b .good))
+      from (BuildCase.stopped g d n m) b = absurd (d (b .admitted))
+      from (BuildCase.built g d e) b = ap answerNo e ∙ room-number (fitsAll o seg) .1 .1 (all-fit o seg .1 (b .over))
+
+module _ (r : Answer Input) (x l : List ℕ) (o : Lists) (a : Answer RawSegment) (h : Builds r x l o a) where
+  -- a number that reading gives, or the condition under which it is given to what was read
+  of-read : (n : ℕ) (C : Input → Type 0) → ((i : Input) → r ≡ done i → (answerNo a ≡ n) ↔ C i) → (n ≡ 0 → ⊥) → (answerNo a ≡ n) ↔ ((answerNo r ≡ n) ⊎ ((i : Input) × (r ≡ done i) × C i))
+  of-read n C ex z = (to r refl, from r refl)
+    where
+      to : (y : Answer Input) → r ≡ y → answerNo a ≡ n → (answerNo r ≡ n) ⊎ ((i : Input) × (r ≡ done i) × C i)
+      to (done i) e q = inr (i, e, ex i e .0 q)
+      to (refused k u) e q = inl (ap answerNo e ∙ sym (ap answerNo (h .unread k u e)) ∙ q)
+
+      from : (y : Answer Input) → r ≡ y → (answerNo r ≡ n) ⊎ ((i : Input) × (r ≡ done i) × C i) → answerNo a ≡ n
+      from (done i) e (inl m) = absurd (z (sym m ∙ ap answerNo e))
+      from (refused k u) e (inl m) = ap answerNo (h .unread k u e) ∙ sym (ap answerNo e) ∙ m
+      from y e (inr (i, p, b)) = ex i p .1 b
+
+  -- 1 EXACTLY WHEN reading gives it, or something was read and the context is not good
+  pub build-1 : (answerNo a ≡ 1) ↔ ((answerNo r ≡ 1) ⊎ ((i : Input) × (r ≡ done i) × (Good x (length (i .expressions)) (length l) → ⊥)))
+  build-1 = of-read 1 (λ i. Good x (length (i .expressions)) (length l) → ⊥) (λ i e. built-1 i x l o a (h .read i e)) (λ q. omega arith)
+
+  -- 9 EXACTLY WHEN reading gives it, or all else is fine and some list has no room
+  pub build-9 : (answerNo a ≡ 9) ↔ ((answerNo r ≡ 9) ⊎ ((i : Input) × (r ≡ done i) × OverfullBuild i x l o))
+  build-9 = of-read 9 (λ i. OverfullBuild i x l o) (λ i e. built-9 i x l o a (h .read i e)) (λ q. omega arith)
