@@ -10,3 +10,4 @@ pub mod Serving
 pub mod Building
 pub mod Exactly
 pub mod Sessions
+pub mod Shadows
