@@ -2,6 +2,8 @@
 
 mod library;
 mod record;
+#[cfg(test)]
+mod refusals;
 mod session;
 
 use judge::pool::MAX_NODES;
