@@ -170,15 +170,35 @@ impl Step {
         self.0
     }
 
+    const ALL: [Step; 5] = [Step::ADD, Step::SUB, Step::MUL, Step::MULADD, Step::COPY];
+
+    pub fn from_byte(byte: u8) -> Option<Step> {
+        Step::ALL.into_iter().find(|step| step.0 == byte)
+    }
+
     /// The step of the original's `op`.
     pub fn from_word(word: &str) -> Option<Step> {
-        match word {
-            "add" => Some(Step::ADD),
-            "sub" => Some(Step::SUB),
-            "mul" => Some(Step::MUL),
-            "muladd" => Some(Step::MULADD),
-            "copy" => Some(Step::COPY),
-            _ => None,
+        Step::ALL.into_iter().find(|step| step.word() == word)
+    }
+
+    /// The original's `op`.
+    pub fn word(self) -> &'static str {
+        match self {
+            Step::ADD => "add",
+            Step::SUB => "sub",
+            Step::MUL => "mul",
+            Step::MULADD => "muladd",
+            Step::COPY => "copy",
+            Step(byte) => unreachable!("no step has byte {:02x}", byte),
+        }
+    }
+
+    /// Sources that the step needs.
+    pub fn source_count(self) -> usize {
+        match self {
+            Step::COPY => 1,
+            Step::MULADD => 3,
+            _ => 2,
         }
     }
 }

@@ -81,12 +81,17 @@ impl Node {
         bytes
     }
 
+    /// Whether the frame has as many children as its kind.
+    pub fn has_its_children(&self) -> bool {
+        self.children.len() == self.kind.child_count()
+    }
+
     fn check(&self) -> Result<(), String> {
         let word = self.kind.word();
         if self.id != 0 && !self.kind.has_id() {
             return Err(format!("{} has no id, so it is 0", word));
         }
-        if self.children.len() != self.kind.child_count() {
+        if !self.has_its_children() {
             return Err(format!("{} has {} children", word, self.kind.child_count()));
         }
         let in_range = |literal: Literal| self.kind == Kind::NUMBER || literal.as_i64().is_some();
@@ -208,9 +213,10 @@ pub fn owners(nodes: &[Node], expressions: &[Expression]) -> Vec<Option<usize>> 
     owners
 }
 
-/// Settles expressions whose uses are all settled until no more can be; a leaf of one that is
-/// left, leading to another that is left, is then named.
-fn leaf_into_cycle(uses: &[Vec<(usize, usize)>]) -> Option<usize> {
+/// Each expression's uses: the expression used and the leaf that does. Settles expressions whose
+/// uses are all settled until no more can be; a leaf of one that is left, leading to another that
+/// is left, is then named.
+pub fn leaf_into_cycle(uses: &[Vec<(usize, usize)>]) -> Option<usize> {
     let mut settled = vec![false; uses.len()];
     loop {
         let ready = |e: &usize| !settled[*e] && uses[*e].iter().all(|&(used, _)| settled[used]);

@@ -8,43 +8,43 @@ use crate::pool::{self, Expression, Flags, Node, Pool, MAX_EXPRESSIONS, MAX_NODE
 use crate::script::{Command, Script, MAX_REQUESTS};
 
 /// SplitMix64.
-struct Random(u64);
+pub struct Random(u64);
 
 impl Random {
     /// A stream of its own for each index, so that a case does not depend on how many come first.
-    fn new(seed: u64, index: u64) -> Random {
+    pub fn new(seed: u64, index: u64) -> Random {
         let mut of_seed = Random(seed);
         Random(of_seed.next() ^ Random(index).next())
     }
 
-    fn next(&mut self) -> u64 {
+    pub fn next(&mut self) -> u64 {
         self.0 = self.0.wrapping_add(0x9e37_79b9_7f4a_7c15);
         let z = (self.0 ^ (self.0 >> 30)).wrapping_mul(0xbf58_476d_1ce4_e5b9);
         let z = (z ^ (z >> 27)).wrapping_mul(0x94d0_49bb_1331_11eb);
         z ^ (z >> 31)
     }
 
-    fn below(&mut self, limit: usize) -> usize {
+    pub fn below(&mut self, limit: usize) -> usize {
         (self.next() % limit as u64) as usize
     }
 
-    fn between(&mut self, low: usize, high: usize) -> usize {
+    pub fn between(&mut self, low: usize, high: usize) -> usize {
         low + self.below(high - low + 1)
     }
 
-    fn chance(&mut self, percent: usize) -> bool {
+    pub fn chance(&mut self, percent: usize) -> bool {
         self.below(100) < percent
     }
 
-    fn one_of(&mut self, many: usize) -> bool {
+    pub fn one_of(&mut self, many: usize) -> bool {
         self.below(many) == 0
     }
 
-    fn pick<T: Copy>(&mut self, from: &[T]) -> T {
+    pub fn pick<T: Copy>(&mut self, from: &[T]) -> T {
         from[self.below(from.len())]
     }
 
-    fn take<T>(&mut self, from: &mut Vec<T>) -> T {
+    pub fn take<T>(&mut self, from: &mut Vec<T>) -> T {
         let index = self.below(from.len());
         from.swap_remove(index)
     }
@@ -107,6 +107,11 @@ pub fn case(seed: u64, index: u64, nodes: Option<usize>) -> Case {
     let commands = random_commands(random, size, pool.expressions().len());
     let name = format!("random-{}-{:03}", seed, index);
     Case { name, note: None, script: Script { pool, commands } }
+}
+
+/// An admitted pool of so many nodes, in up to so many expressions.
+pub fn pool_of(random: &mut Random, nodes: usize, expressions: usize) -> Pool {
+    random_pool(random, Size { expressions: (1, expressions), ..of_nodes(nodes) })
 }
 
 fn of_nodes(nodes: usize) -> Size {

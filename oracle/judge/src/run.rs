@@ -56,7 +56,8 @@ fn silence_the_original() {
     });
 }
 
-fn text_of(payload: Box<dyn Any + Send>) -> String {
+/// What a caught panic says.
+pub fn text_of(payload: Box<dyn Any + Send>) -> String {
     match payload.downcast::<String>() {
         Ok(text) => *text,
         Err(payload) => match payload.downcast::<&str>() {
@@ -222,7 +223,7 @@ fn refusal(foreseen: Option<Refusal>, outcome: &Outcome) -> Result<Option<Refusa
 }
 
 /// The pool as the original holds it: a tree for each expression.
-fn pil(pool: &Pool) -> PIL {
+pub fn pil(pool: &Pool) -> PIL {
     PIL {
         nCommitments: 0,
         nQ: 0,

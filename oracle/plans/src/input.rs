@@ -1,0 +1,136 @@
+//! Inputs: a pool that need not be admitted, with a plan's record; and the refusals that need
+//! no answer of the original, in document 01's order.
+
+use crate::plan::Plan;
+use crate::refusals::{BITS, CHILDREN, COUNTS, CYCLE, FULL, NOT_THERE};
+use judge::kinds::Kind;
+use judge::pool::{leaf_into_cycle, owners, Expression, Node, Pool, MAX_EXPRESSIONS, MAX_NODES};
+
+pub const MAX_BITS: u8 = 24;
+pub const MAX_MORE_BITS: u8 = 4;
+
+/// Nodes and expressions of well-formed frames. Whether they fit together is not said.
+#[derive(Clone, Debug, Default, PartialEq, Eq)]
+pub struct Draft {
+    pub nodes: Vec<Node>,
+    pub expressions: Vec<Expression>,
+}
+
+impl Draft {
+    pub fn of(pool: &Pool) -> Draft {
+        Draft { nodes: pool.nodes().to_vec(), expressions: pool.expressions().to_vec() }
+    }
+
+    /// Frames in order.
+    pub fn frames(&self) -> impl Iterator<Item = Vec<u8>> + '_ {
+        self.nodes.iter().map(Node::frame).chain(self.expressions.iter().map(Expression::frame))
+    }
+}
+
+/// What is lent: the frames of a pool, and the bytes of a plan.
+#[derive(Clone, Debug, Default, PartialEq, Eq)]
+pub struct Input {
+    pub pool: Draft,
+    pub plan: Vec<u8>,
+}
+
+impl Input {
+    pub fn new(pool: Draft, plan: &Plan) -> Input {
+        Input { pool, plan: plan.bytes() }
+    }
+
+    /// The pool and the plan, or the number of all refusals but 12, for which see `dimensions`.
+    pub fn admitted(&self) -> Result<(Pool, Plan), u8> {
+        if self.pool.nodes.len() > MAX_NODES || self.pool.expressions.len() > MAX_EXPRESSIONS {
+            return Err(FULL);
+        }
+        let plan = Plan::read(&self.plan)?;
+        let pool = self.linked_pool(&plan)?;
+        refused_if(has_cycle(&pool, &plan), CYCLE)?;
+        refused_if(!bits_agree(&plan), BITS)?;
+        refused_if(!counts_agree(&plan), COUNTS)?;
+        Ok((pool, plan))
+    }
+
+    /// 2 and 3, each over the whole.
+    fn linked_pool(&self, plan: &Plan) -> Result<Pool, u8> {
+        let Draft { nodes, expressions } = &self.pool;
+        refused_if(!nodes.iter().all(Node::has_its_children), CHILDREN)?;
+        let mut pool = Pool::default();
+        for node in nodes {
+            pool.push_node(node.clone()).map_err(|_| NOT_THERE)?;
+        }
+        for &expression in expressions {
+            pool.push_expression(expression).map_err(|_| NOT_THERE)?;
+        }
+        let all_there = leaves_are_there(&pool, plan) && expressions_are_there(&pool, plan);
+        refused_if(!all_there, NOT_THERE)?;
+        Ok(pool)
+    }
+}
+
+fn refused_if(refused: bool, number: u8) -> Result<(), u8> {
+    if refused {
+        return Err(number);
+    }
+    Ok(())
+}
+
+/// A leaf that nothing uses counts too.
+fn leaves_are_there(pool: &Pool, plan: &Plan) -> bool {
+    pool.nodes().iter().all(|node| {
+        let there = match node.kind {
+            Kind::CM => plan.columns(),
+            Kind::EXP => pool.expressions().len(),
+            Kind::Q => plan.q2exp.len(),
+            _ => return true,
+        };
+        usize::from(node.id) < there
+    })
+}
+
+fn expressions_are_there(pool: &Pool, plan: &Plan) -> bool {
+    let of_lookups = plan.pu.iter().flat_map(|pu| [pu.f, pu.t]);
+    let of_products = plan.ratios().flat_map(|ratio| ratio.numbers());
+    let of_intermediates = plan.intermediates.iter().map(|i| i.expression);
+    of_lookups
+        .chain(of_products)
+        .chain(of_intermediates)
+        .chain(plan.q2exp.iter().copied())
+        .chain([plan.c_exp])
+        .all(|expression| usize::from(expression) < pool.expressions().len())
+}
+
+/// Through exp leaves and, by way of q2exp, q leaves.
+fn has_cycle(pool: &Pool, plan: &Plan) -> bool {
+    let owners = owners(pool.nodes(), pool.expressions());
+    let mut uses = vec![Vec::new(); pool.expressions().len()];
+    for (node, leaf) in pool.nodes().iter().enumerate() {
+        let used = used_expression(leaf, plan);
+        if let (Some(owner), Some(used)) = (owners[node], used) {
+            uses[owner].push((used, node));
+        }
+    }
+    leaf_into_cycle(&uses).is_some()
+}
+
+/// The expression that a leaf leads to.
+pub fn used_expression(leaf: &Node, plan: &Plan) -> Option<usize> {
+    match leaf.kind {
+        Kind::EXP => Some(usize::from(leaf.id)),
+        Kind::Q => Some(usize::from(plan.q2exp[usize::from(leaf.id)])),
+        _ => None,
+    }
+}
+
+fn bits_agree(plan: &Plan) -> bool {
+    let Plan { n_bits, n_bits_ext, .. } = *plan;
+    n_bits <= MAX_BITS && (n_bits..=n_bits + MAX_MORE_BITS).contains(&n_bits_ext)
+}
+
+fn counts_agree(plan: &Plan) -> bool {
+    let [_, n_cm2, n_cm3, n_cm4] = plan.n_cm.map(usize::from);
+    n_cm2 == 2 * plan.pu.len()
+        && n_cm3 == plan.products() + plan.intermediates.len()
+        && n_cm4 == usize::from(plan.q_deg)
+}

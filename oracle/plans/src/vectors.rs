@@ -1,0 +1,87 @@
+//! Vectors: questions stored with their answers.
+
+use crate::question::{ask, Question};
+use crate::text;
+use judge::script::{numbered, TextFault};
+use std::collections::HashSet;
+use std::fmt;
+
+/// A question with its name and, where the name does not say it, what it shows.
+#[derive(Clone, Debug)]
+pub struct Case {
+    pub name: String,
+    pub note: Option<String>,
+    pub question: Question,
+}
+
+impl Case {
+    pub fn new(name: &str, question: Question) -> Case {
+        Case { name: name.to_string(), note: None, question }
+    }
+
+    pub fn note(self, note: &str) -> Case {
+        Case { note: Some(note.to_string()), ..self }
+    }
+}
+
+#[derive(Clone, Debug)]
+pub struct Vector {
+    pub case: Case,
+    pub answer: String,
+}
+
+impl Vector {
+    pub fn of(case: Case) -> Result<Vector, String> {
+        let answer = ask(&case.question).map_err(|text| format!("{}: {}", case.name, text))?;
+        Ok(Vector { case, answer: answer.to_string() })
+    }
+
+    /// Both answers, where the one given now is another than the stored one.
+    pub fn difference(&self) -> Result<Option<String>, String> {
+        let given = ask(&self.case.question)?.to_string();
+        if given == self.answer {
+            return Ok(None);
+        }
+        Ok(Some(format!("stored is\n{}and the original says\n{}", self.answer, given)))
+    }
+}
+
+impl fmt::Display for Vector {
+    fn fmt(&self, f: &mut fmt::Formatter<'_>) -> fmt::Result {
+        if let Some(note) = &self.case.note {
+            writeln!(f, "# {}", note)?;
+        }
+        let Case { name, question, .. } = &self.case;
+        writeln!(f, "vector {}\n{}answers\n{}end", name, question, self.answer)
+    }
+}
+
+/// Reads a list of vectors. Notes are comments and are not read.
+pub fn parse(text: &str) -> Result<Vec<Vector>, TextFault> {
+    let mut names = HashSet::new();
+    let lines: Vec<_> = numbered(text).collect();
+    let mut rest = &lines[..];
+    let mut vectors = Vec::new();
+    while let Some(&(line, head)) = rest.first() {
+        let fault = |text: String| TextFault { line, text };
+        let name = head
+            .strip_prefix("vector ")
+            .ok_or_else(|| fault(format!("`vector NAME` comes here, not {:?}", head)))?;
+        if !names.insert(name) {
+            return Err(fault(format!("there are two vectors {}", name)));
+        }
+        let place = |stop: &str| {
+            let place = rest.iter().position(|&(_, text)| text == stop);
+            place.ok_or_else(|| fault(format!("this vector has no line `{}`", stop)))
+        };
+        let (answers, end) = (place("answers")?, place("end")?);
+        if end < answers {
+            return Err(fault("this vector has no line `answers`".to_string()));
+        }
+        let question = text::parse(&rest[1..answers], line)?;
+        let answer = rest[answers + 1..end].iter().map(|(_, text)| format!("{}\n", text)).collect();
+        vectors.push(Vector { case: Case::new(name, question), answer });
+        rest = &rest[end + 1..];
+    }
+    Ok(vectors)
+}
