@@ -1,6 +1,7 @@
 //! The command line of plans.
 
 use judge::run::on_large_stack;
+use plans::stored;
 use plans::tally;
 use plans::vectors;
 use std::env;
@@ -29,6 +30,7 @@ fn main() -> ExitCode {
     let words: Vec<&str> = words.iter().map(String::as_str).collect();
     let done = match words[..] {
         ["check", file] => check(file),
+        ["write"] => on_large_stack(stored::text).and_then(|text| print(&text)),
         ["tally", seed, count] => print_tally(seed, count),
         ["--help"] | ["-h"] | ["help"] => print(HELP),
         _ => Err(format!("this is how it is asked:\n\n{}", HELP)),
