@@ -2,10 +2,12 @@
 //!
 //! `plan`, `input` and `lists` are what is asked about, `refusals`, `input` and `dimensions` say what
 //! document 01 refuses; `original_map`, `sections` and `walks` ask the original, `mapped` is what
-//! `map` answers. `question` puts these together, `text` and `vectors` write and read them; `chosen`
-//! and `random` think up questions, `stored` keeps them, `tally` counts and compares.
+//! `map` answers. `question` puts these together, `text` and `vectors` write and read them; `surprises`,
+//! `edges` and `shapes` (by way of `written`), `random`, `faults` and `random_lists` think up
+//! questions, `stored` keeps them, `tally` counts and compares.
 
 pub mod dimensions;
+pub mod edges;
 pub mod faults;
 pub mod input;
 pub mod lists;
@@ -17,6 +19,7 @@ pub mod random;
 pub mod random_lists;
 pub mod refusals;
 pub mod sections;
+pub mod shapes;
 pub mod stored;
 pub mod surprises;
 pub mod tally;

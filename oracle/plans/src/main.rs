@@ -67,7 +67,7 @@ fn check(file: &str) -> Result<ExitCode, String> {
 }
 
 fn print_tally(seed: &str, count: &str) -> Result<ExitCode, String> {
-    let tally = tally::run(number(seed, "SEED")?, number(count, "COUNT")?, |_, _| Ok(()))?;
+    let tally = tally::tally(number(seed, "SEED")?, number(count, "COUNT")?)?;
     print(&tally.to_string())
 }
 

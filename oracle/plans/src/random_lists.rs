@@ -86,7 +86,7 @@ const STEPS: [kinds::Step; 5] =
 /// A segment of any steps. Where the walk fixes they have the sources that they need.
 pub fn any(random: &mut Random, pool: &Pool, plan: &Plan, walk: Walk) -> Segment {
     let wild = random.chance(35);
-    let counter = random.pick(&[0, 1, 4, 9]);
+    let counter = random.pick(&[0, 0, 1, 1, 4, 4, 9, 9, 65_534]);
     let expressions = pool.expressions().len();
     let mut drawn = Drawn { random, plan, expressions, walk, wild, written: Vec::new() };
     let mut list = || drawn.list();

@@ -56,3 +56,42 @@ impl fmt::Display for Placed {
         write!(f, "positions {}\n{}", listed(&self.positions), self.widths)
     }
 }
+
+#[cfg(test)]
+mod tests {
+    use super::*;
+    use crate::mapped::{BySection, SECTIONS};
+    use crate::random_lists;
+    use judge::random::Random;
+
+    /// Document 01's sentence: of a section those of dimension 1, then 2, then 3, in record order, each
+    /// at the sum of the dimensions before it.
+    fn placed_by_the_document(records: &[Record]) -> Placed {
+        let mut positions: Vec<usize> = records.iter().map(|record| record.position).collect();
+        let (mut n1, mut n): (BySection, BySection) = Default::default();
+        for section in 0..SECTIONS.len() {
+            for dimension in 1..=3 {
+                for (place, record) in records.iter().enumerate() {
+                    if (record.section, record.dimension) == (section, dimension) {
+                        positions[place] = n[section];
+                        n[section] += dimension;
+                    }
+                }
+                if dimension == 1 {
+                    n1[section] = n[section];
+                }
+            }
+        }
+        let mut n3 = n;
+        n3.iter_mut().zip(n1).for_each(|(n3, n1)| *n3 = (*n3 - n1) / 3);
+        Placed { positions, widths: Widths { n1, n, n3 } }
+    }
+
+    #[test]
+    fn what_map_appends_does_not_show() {
+        for index in 0..500 {
+            let records = random_lists::records(&mut Random::new(1, index));
+            assert_eq!(ask_sections(&records), Ok(placed_by_the_document(&records)));
+        }
+    }
+}

@@ -315,17 +315,19 @@ fn m14_the_verifiers_code() -> Vec<Case> {
 }
 
 fn m16_lookups_see_earlier_columns() -> Vec<Case> {
-    let of = |name: &str, f: Tree, first: u16| {
-        let trees = [cm(0), f, add(cm(0), leaf(Kind::CHALLENGE, 0))];
-        let plan = Plan { pu: vec![pu(first, first, 0, 0), pu(1, 1, 0, 0)], ..SMALL };
-        Case::new(name, map(&trees, &with_columns(1, plan)))
+    // The lookups' columns are cm1 and cm2, cm3 and cm4; their products' cm5 and cm6.
+    let of = |name: &str, tree: Tree, lookups: [u16; 2]| {
+        let trees = [cm(0), tree, add(cm(0), leaf(Kind::CHALLENGE, 0))];
+        let pu = lookups.iter().map(|&e| pu(e, e, 0, 0)).collect();
+        Case::new(name, map(&trees, &with_columns(1, Plan { pu, ..SMALL })))
     };
     vec![
-        of("m16-own-column", cm(3), 0),
-        of("m16-later-column", cm(5), 0),
-        of("m16-own-column-and-a-const", add(cm(3), constant(0)), 0),
-        of("m16-earlier-column", cm(1), 0),
-        of("m16-earlier-column-of-dimension-3", cm(2), 2),
+        of("m16-a-later-lookups-column", cm(3), [1, 0]),
+        of("m16-a-later-lookups-column-and-a-const", add(cm(3), constant(0)), [1, 0]),
+        of("m16-own-column", cm(3), [0, 1]),
+        of("m16-a-products-column", cm(5), [0, 1]),
+        of("m16-an-earlier-lookups-column", cm(1), [0, 1]),
+        of("m16-an-earlier-lookups-column-of-dimension-3", cm(2), [2, 1]),
     ]
 }
 

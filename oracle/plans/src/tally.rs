@@ -80,26 +80,46 @@ impl Tally {
     }
 }
 
-/// Asks the questions of so many indices, and lets each be compared with its answer. Ends at the
-/// first that differs, or that the original has no answer to.
-pub fn run(
+/// Asks the questions of so many indices.
+pub fn tally(seed: u64, count: u64) -> Result<Tally, String> {
+    each(seed, count, |_, _| None).map(|(tally, _)| tally)
+}
+
+/// Asks the same of the original and of something else, up to the first difference.
+pub fn compare(
     seed: u64,
     count: u64,
-    compare: impl Fn(&Question, &Answer) -> Result<(), String> + Sync,
-) -> Result<Tally, String> {
+    other: impl Fn(&Question) -> Answer + Sync,
+) -> Result<(Tally, Option<String>), String> {
+    each(seed, count, |question, answer| {
+        let given = other(question);
+        if given == *answer {
+            return None;
+        }
+        Some(format!("{}expected is\n{}and given\n{}", question, answer, given))
+    })
+}
+
+/// Shows each question with its answer, up to the first where there is something to tell.
+fn each(
+    seed: u64,
+    count: u64,
+    told: impl Fn(&Question, &Answer) -> Option<String> + Sync,
+) -> Result<(Tally, Option<String>), String> {
     on_large_stack(|| {
         let mut tally = Tally::default();
         for index in 0..count {
-            for Labelled { label, question } in questions(seed, index)? {
-                let answer = ask(&question).and_then(|answer| {
-                    compare(&question, &answer)?;
-                    Ok(answer)
-                });
-                let place = |text| format!("seed {}, {}:\n{}{}", seed, index, question, text);
-                tally.count(&label, &answer.map_err(place)?);
+            let place = |text: String| format!("input {} of seed {}: {}", index, seed, text);
+            for Labelled { label, question } in questions(seed, index).map_err(place)? {
+                let answer =
+                    ask(&question).map_err(|text| place(format!("{}\n{}", text, question)))?;
+                if let Some(text) = told(&question, &answer) {
+                    return Ok((tally, Some(place(text))));
+                }
+                tally.count(&label, &answer);
             }
         }
-        Ok(tally)
+        Ok((tally, None))
     })
 }
 
@@ -120,5 +140,144 @@ impl fmt::Display for Tally {
             writeln!(f)?;
         }
         Ok(())
+    }
+}
+
+#[cfg(test)]
+mod tests {
+    use super::*;
+    use crate::lists::Segment;
+    use crate::refusals::*;
+    use crate::walks::Domain;
+
+    const SEED: u64 = 3;
+    const COUNT: u64 = 500;
+
+    #[test]
+    fn every_refusal_is_reached_and_most_plans_are_accepted() {
+        let tally = tally(SEED, COUNT).unwrap();
+        for number in [MALFORMED, CHILDREN, NOT_THERE, CYCLE, FULL, COUNTS, NO_DIMENSION, BITS] {
+            assert!(tally.refused("map", number) > 0, "{}\n{}", number, tally);
+        }
+        assert!(tally.accepted("map") > COUNT / 2, "{}", tally);
+        for walk in Walk::ALL {
+            let any = format!("{}, any", walk.name());
+            let generated = format!("{}, generated", walk.name());
+            for number in [NOT_THERE, NO_RULE] {
+                assert!(tally.refused(&any, number) > 0, "{}, {}\n{}", any, number, tally);
+            }
+            assert!(tally.accepted(&any) > COUNT / 10, "{}\n{}", any, tally);
+            assert!(tally.accepted(&generated) > COUNT / 10, "{}\n{}", generated, tally);
+        }
+        assert!(tally.refused("dims, any", NO_DIMENSION) > 0, "{}", tally);
+        assert!(tally.refused("fix n, any", FULL) > 0, "{}", tally);
+    }
+
+    fn original(question: &Question) -> Answer {
+        ask(question).expect("an answer")
+    }
+
+    #[test]
+    fn the_original_equals_itself() {
+        let (compared, difference) = compare(SEED, 50, original).unwrap();
+        assert_eq!(difference, None);
+        assert_eq!(Ok(compared), tally(SEED, 50));
+    }
+
+    /// Compares with the original, changed in what it answers.
+    fn finds(change: fn(&mut Answer)) -> bool {
+        let changed = |question: &Question| {
+            let mut answer = original(question);
+            change(&mut answer);
+            answer
+        };
+        compare(SEED, COUNT, changed).unwrap().1.is_some()
+    }
+
+    #[test]
+    fn a_position_off_by_one_is_found() {
+        assert!(finds(|answer| match answer {
+            Answer::Mapped(mapped) => mapped.records[0].position += 1,
+            _ => {}
+        }));
+        assert!(finds(|answer| match answer {
+            Answer::Placed(placed) => placed.positions.iter_mut().for_each(|p| *p += 1),
+            _ => {}
+        }));
+    }
+
+    #[test]
+    fn a_wrong_total_column_or_dimension_is_found() {
+        let changes: [fn(&mut crate::mapped::Mapped); 4] = [
+            |mapped| mapped.total += 1,
+            |mapped| mapped.exp2pol.iter_mut().for_each(|column| column.record += 1),
+            |mapped| mapped.temporary_columns.reverse(),
+            |mapped| mapped.cm_dims.reverse(),
+        ];
+        for change in changes {
+            let differs = compare(SEED, COUNT, |question| match original(question) {
+                Answer::Mapped(mut mapped) => {
+                    change(&mut mapped);
+                    Answer::Mapped(mapped)
+                }
+                other => other,
+            });
+            assert!(differs.unwrap().1.is_some());
+        }
+    }
+
+    #[test]
+    fn a_changed_reference_is_found() {
+        let changes: [fn(&mut Segment); 5] = [
+            |segment| segment.first.iter_mut().for_each(|step| step.dest.prime = false),
+            |segment| segment.last.iter_mut().for_each(|step| step.dest.exp_id = 0),
+            |segment| segment.i.iter_mut().flat_map(|step| &mut step.src).for_each(|s| s.p = 0),
+            |segment| segment.i.iter_mut().flat_map(|step| &mut step.src).for_each(|s| s.dim = 0),
+            |segment| segment.i.iter_mut().flat_map(|s| &mut s.src).for_each(|s| s.tree_pos = 0),
+        ];
+        for change in changes {
+            let differs = compare(SEED, COUNT, |question| match original(question) {
+                Answer::Segment(mut segment) => {
+                    change(&mut segment);
+                    Answer::Segment(segment)
+                }
+                other => other,
+            });
+            assert!(differs.unwrap().1.is_some());
+        }
+    }
+
+    #[test]
+    fn a_refusal_in_place_of_another_is_found() {
+        for number in [MALFORMED, CHILDREN, CYCLE, FULL, NO_RULE, COUNTS, NO_DIMENSION, BITS] {
+            let differs = compare(SEED, COUNT, |question| match original(question) {
+                Answer::Refused(given) if given == number => Answer::Refused(NOT_THERE),
+                other => other,
+            });
+            assert!(differs.unwrap().1.is_some(), "{}", number);
+        }
+    }
+
+    #[test]
+    fn the_domain_is_seen() {
+        let differs = compare(SEED, COUNT, |question| match question {
+            Question::Walk(input, Walk::Fix(Domain::N), segment) => {
+                let other = Walk::Fix(Domain::TwoNs);
+                original(&Question::Walk(input.clone(), other, segment.clone()))
+            }
+            _ => original(question),
+        });
+        assert!(differs.unwrap().1.is_some());
+    }
+
+    #[test]
+    fn questions_depend_on_seed_and_index_only() {
+        let text = |seed, index| -> String {
+            let asked = on_large_stack(|| questions(seed, index)).unwrap();
+            asked.iter().map(|labelled| labelled.question.to_string()).collect()
+        };
+        assert_eq!(text(7, 3), text(7, 3));
+        assert_ne!(text(7, 3), text(7, 4));
+        assert_ne!(text(7, 3), text(8, 3));
     }
 }

@@ -85,3 +85,55 @@ pub fn parse(text: &str) -> Result<Vec<Vector>, TextFault> {
     }
     Ok(vectors)
 }
+
+#[cfg(test)]
+mod tests {
+    use super::*;
+    use judge::run::on_large_stack;
+
+    const ONE: &str = "\
+vector one
+ask sections
+record 0 2 5
+answers
+positions 0
+n1 0 0 0 0 0 0 0 0 0 0 0
+n 2 0 0 0 0 0 0 0 0 0 0
+n3 0 0 0 0 0 0 0 0 0 0 0
+end
+";
+
+    fn difference(text: &str) -> Option<String> {
+        let vectors = parse(text).unwrap();
+        on_large_stack(|| vectors[0].difference()).unwrap()
+    }
+
+    #[test]
+    fn a_wrong_answer_is_shown() {
+        assert_eq!(difference(ONE), None);
+        let text = difference(&ONE.replace("positions 0", "positions 5")).unwrap();
+        assert!(text.starts_with("stored is\npositions 5\n"), "{}", text);
+        assert!(difference(&ONE.replace("positions 0\n", "")).is_some());
+        assert!(difference(&ONE.replace("record 0 2 5", "record 0 3 5")).is_some());
+    }
+
+    #[test]
+    fn malformed_lists_are_named_by_line() {
+        let fault = |text: &str| parse(text).expect_err(text).to_string();
+        let cases = [
+            ("ask map\n", "line 1: `vector NAME` comes here, not \"ask map\""),
+            ("vector a\nask map\n", "line 1: this vector has no line `answers`"),
+            ("vector a\nend\nanswers\n", "line 1: this vector has no line `answers`"),
+            ("vector a\nanswers\n", "line 1: this vector has no line `end`"),
+            ("vector a\nanswers\nend\n", "line 1: this asks nothing"),
+            ("vector a\nask mop\nanswers\nend\n", "line 1: nothing is asked by \"mop\""),
+            ("vector a\nbits 1\nanswers\nend\n", "line 2: 2 numbers come here"),
+            ("vector a\nbits 1 256\nanswers\nend\n", "line 2: \"256\" is no number that fits here"),
+            ("vector a\n03\nanswers\nend\n", "line 2: no frame begins with 03"),
+        ];
+        for (text, expected) in cases {
+            assert_eq!(fault(text), expected);
+        }
+        assert_eq!(fault(&ONE.repeat(2)), "line 10: there are two vectors one");
+    }
+}

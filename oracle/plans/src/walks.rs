@@ -5,12 +5,15 @@ use crate::lists::{Reference, Segment, Step};
 use crate::mapped::Mapped;
 use crate::original_map::{caught, run_map, Panic, Refused};
 use crate::plan::Plan;
-use crate::refusals::{NOT_THERE, NO_DIMENSION, NO_RULE};
+use crate::refusals::{FULL, NOT_THERE, NO_DIMENSION, NO_RULE};
 use judge::kinds::Kind;
 use judge::pool::Pool;
 use original::starkinfo::Program;
 use original::starkinfo_codegen as code;
 use std::collections::HashSet;
+
+/// The largest number of a list's record.
+const MAX_NUMBER: usize = u16::MAX as usize;
 
 #[derive(Clone, Copy, Debug, PartialEq, Eq, PartialOrd, Ord)]
 pub enum Domain {
@@ -59,12 +62,13 @@ impl Walk {
         }
     }
 
-    /// The walk that comes before the dimension pass, if this one has it.
-    fn before_dimensions(self) -> Option<Walk> {
+    /// The walk before its last one, if it has several.
+    fn before(self) -> Option<Walk> {
         match self {
+            Walk::Query => Some(Walk::Fix(Domain::TwoNs)),
             Walk::FixDims(domain) => Some(Walk::Fix(domain)),
             Walk::QueryDims => Some(Walk::Query),
-            _ => None,
+            Walk::Fix(_) | Walk::Dims | Walk::DimsFirst => None,
         }
     }
 
@@ -75,7 +79,8 @@ impl Walk {
     }
 }
 
-/// Asks the original, for an accepted plan. A refusal must have been foreseen.
+/// Asks the original, for an accepted plan. A refusal must have been foreseen; the walks are taken one
+/// after the other, each over the whole segment. An answer that does not fit is 9.
 pub fn ask_walk(
     pool: &Pool,
     plan: &Plan,
@@ -83,17 +88,22 @@ pub fn ask_walk(
     walk: Walk,
     segment: &Segment,
 ) -> Result<Segment, Refused> {
-    let before = match walk.before_dimensions() {
-        Some(before) => Some(ask_walk(pool, plan, mapped, before, segment)?),
-        None => None,
-    };
-    let foreseen = match walk {
-        Walk::Fix(_) => fixing_refusal(mapped, segment),
-        Walk::Query => query_refusal(plan, mapped, segment),
-        _ => dimension_refusal(plan, mapped, walk, before.as_ref().unwrap_or(segment)),
+    let foreseen = match walk.before() {
+        Some(before) => {
+            let walked = ask_walk(pool, plan, mapped, before, segment)?;
+            refusal(plan, mapped, walk, &walked)
+        }
+        None => refusal(plan, mapped, walk, segment),
     };
     match (foreseen, run_walk(pool, plan, walk, segment)) {
-        (None, Ok(after)) => segment.from_original(&after).map_err(Refused::Not),
+        (None, Ok(after)) => {
+            let answer = segment.from_original(&after).map_err(Refused::Not)?;
+            // The original's numbers have no limit.
+            if answer.counter > MAX_NUMBER {
+                return Err(Refused::With(FULL));
+            }
+            Ok(answer)
+        }
         (Some(number), Err(panic)) if panic.may_mean(number) => Err(Refused::With(number)),
         (foreseen, end) => Err(Refused::Not(format!(
             "the original ended with {:?}; foreseen was {:?}",
@@ -180,23 +190,28 @@ fn fixed_in_order(segment: &Segment) -> impl Iterator<Item = &Reference> {
     segment.steps().flat_map(|step| step.src.iter().chain([&step.dest]))
 }
 
-fn fixing_refusal(mapped: &Mapped, segment: &Segment) -> Option<u8> {
-    fixed_in_order(segment).find_map(|reference| match reference.kind {
-        Kind::CM if reference.id >= mapped.cm_n.len() => Some(NOT_THERE),
-        Kind::TREE1 | Kind::TREE2 | Kind::TREE3 | Kind::TREE4 | Kind::Z => Some(NO_RULE),
-        _ => None,
-    })
+/// The number that the last walk refuses a segment with.
+fn refusal(plan: &Plan, mapped: &Mapped, walk: Walk, segment: &Segment) -> Option<u8> {
+    match walk {
+        Walk::Fix(_) => fixed_in_order(segment).find_map(|r| fixing_refusal(mapped, r)),
+        Walk::Query => fixed_in_order(segment).find_map(|r| column_refusal(mapped, r)),
+        _ => dimension_refusal(plan, mapped, walk, segment),
+    }
 }
 
-/// After fixing every cm is there but an intermediate's, of which the plan says any number.
-fn query_refusal(plan: &Plan, mapped: &Mapped, segment: &Segment) -> Option<u8> {
-    fixing_refusal(mapped, segment).or_else(|| {
-        let is_lost = |reference: &Reference| {
-            let cm = plan.intermediate(reference.id).map(|i| usize::from(i.cm));
-            reference.kind == Kind::EXP && cm.map_or(false, |cm| cm >= mapped.cm_2ns.len())
-        };
-        fixed_in_order(segment).find(|reference| is_lost(reference)).map(|_| NOT_THERE)
-    })
+fn fixing_refusal(mapped: &Mapped, reference: &Reference) -> Option<u8> {
+    match reference.kind {
+        Kind::TREE1 | Kind::TREE2 | Kind::TREE3 | Kind::TREE4 | Kind::Z => Some(NO_RULE),
+        _ => column_refusal(mapped, reference),
+    }
+}
+
+/// A cm that is not there; after fixing an intermediate's, of which the plan may say any number.
+fn column_refusal(mapped: &Mapped, reference: &Reference) -> Option<u8> {
+    match reference.kind {
+        Kind::CM if reference.id >= mapped.cm_n.len() => Some(NOT_THERE),
+        _ => None,
+    }
 }
 
 fn dimension_refusal(plan: &Plan, mapped: &Mapped, walk: Walk, segment: &Segment) -> Option<u8> {
@@ -255,5 +270,32 @@ impl Pass<'_> {
     fn has_q(&self, id: usize) -> bool {
         let record = self.plan.qs.get(id).copied();
         record.map_or(false, |record| usize::from(record) < self.mapped.records.len())
+    }
+}
+
+#[cfg(test)]
+mod tests {
+    use super::*;
+
+    #[test]
+    fn a_panic_means_what_it_says() {
+        let means = |text: &str| -> Vec<u8> {
+            let numbers = [NOT_THERE, FULL, NO_RULE, NO_DIMENSION];
+            let panic = Panic(text.to_string());
+            numbers.into_iter().filter(|&number| panic.may_mean(number)).collect()
+        };
+        let index = "index out of bounds: the len is 2 but the index is 2";
+        assert_eq!(means(index), [NOT_THERE, NO_RULE]);
+        assert_eq!(means("Invalid dim"), [NO_DIMENSION]);
+        assert_eq!(means("Invalid reference type get exp"), [NO_RULE]);
+        assert_eq!(means("Invalid op: step05"), [NO_RULE]);
+        assert_eq!(means("called `Option::unwrap()` on a `None` value"), [NO_RULE]);
+        assert!(means("Invalid cm section").is_empty());
+    }
+
+    #[test]
+    fn names_differ() {
+        let names: HashSet<&str> = Walk::ALL.iter().map(|walk| walk.name()).collect();
+        assert_eq!(names.len(), Walk::ALL.len());
     }
 }
