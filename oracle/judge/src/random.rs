@@ -14,10 +14,10 @@ impl Random {
     /// A stream of its own for each index, so that a case does not depend on how many come first.
     pub fn new(seed: u64, index: u64) -> Random {
         let mut of_seed = Random(seed);
-        Random(of_seed.next() ^ Random(index).next())
+        Random(of_seed.draw() ^ Random(index).draw())
     }
 
-    pub fn next(&mut self) -> u64 {
+    pub fn draw(&mut self) -> u64 {
         self.0 = self.0.wrapping_add(0x9e37_79b9_7f4a_7c15);
         let z = (self.0 ^ (self.0 >> 30)).wrapping_mul(0xbf58_476d_1ce4_e5b9);
         let z = (z ^ (z >> 27)).wrapping_mul(0x94d0_49bb_1331_11eb);
@@ -25,7 +25,7 @@ impl Random {
     }
 
     pub fn below(&mut self, limit: usize) -> usize {
-        (self.next() % limit as u64) as usize
+        (self.draw() % limit as u64) as usize
     }
 
     pub fn between(&mut self, low: usize, high: usize) -> usize {
@@ -253,7 +253,7 @@ fn random_id(random: &mut Random) -> u16 {
 
 fn random_literal(random: &mut Random) -> Literal {
     let edges = [0, 1, 2, i64::MAX as u64, 1 << 63, u64::MAX];
-    let magnitude = if random.chance(70) { random.pick(&edges) } else { random.next() };
+    let magnitude = if random.chance(70) { random.pick(&edges) } else { random.draw() };
     let minus = magnitude != 0 && random.chance(50);
     Literal::new(minus, magnitude).expect("not minus zero")
 }
@@ -263,7 +263,7 @@ fn random_i64(random: &mut Random) -> i64 {
     if random.chance(70) {
         random.pick(&edges)
     } else {
-        random.next() as i64
+        random.draw() as i64
     }
 }
 

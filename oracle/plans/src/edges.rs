@@ -171,9 +171,12 @@ fn leaves_not_there() -> Vec<Case> {
     ]
 }
 
+/// A number of a plan.
+type Place = fn(&mut Plan) -> &mut u16;
+
 /// Each expression number of the plan as the first that is not there.
 fn entries_not_there() -> Vec<Case> {
-    let places: [(&str, fn(&mut Plan) -> &mut u16); 11] = [
+    let places: [(&str, Place); 11] = [
         ("f", |plan| &mut plan.pu[0].f),
         ("t", |plan| &mut plan.pu[0].t),
         ("num-of-pu", |plan| &mut plan.pu[0].ratio.num),
@@ -186,7 +189,7 @@ fn entries_not_there() -> Vec<Case> {
         ("c-exp", |plan| &mut plan.c_exp),
         ("q2exp", |plan| &mut plan.q2exp[0]),
     ];
-    let case = |(name, place): (&str, fn(&mut Plan) -> &mut u16)| {
+    let case = |(name, place): (&str, Place)| {
         let beyond = trees().len() as u16;
         of_plan(&format!("edge-03-{}-beyond", name), &changed(|plan| *place(plan) = beyond))
     };
@@ -238,6 +241,8 @@ fn bits() -> Vec<Case> {
     pairs.into_iter().map(case).collect()
 }
 
+type Change = fn(&mut Plan);
+
 fn counts() -> Vec<Case> {
     let mut cases = Vec::new();
     for place in 1..4 {
@@ -247,7 +252,7 @@ fn counts() -> Vec<Case> {
             cases.push(of_plan(&name, &plan));
         }
     }
-    let more: [(&str, fn(&mut Plan)); 5] = [
+    let more: [(&str, Change); 5] = [
         ("pu", |plan| plan.pu.push(plan.pu[0])),
         ("pe", |plan| plan.pe.push(plan.pe[0])),
         ("ci", |plan| plan.ci.push(plan.ci[0])),
@@ -262,7 +267,7 @@ fn counts() -> Vec<Case> {
 
 fn no_dimension() -> Vec<Case> {
     let last = plan().columns() as u16 - 1;
-    let with = |name: &str, more: &[Tree], change: fn(&mut Plan)| {
+    let with = |name: &str, more: &[Tree], change: Change| {
         Case::new(name, map(&[&trees()[..], more].concat(), &changed(change)))
     };
     let lookup = |plan: &mut Plan| (plan.pu[0].f, plan.pu[0].t) = (4, 4);

@@ -56,16 +56,16 @@ fn equal_intermediates(bytes: &mut Vec<u8>) {
 /// One that fits, or more than fit.
 fn too_many_records(random: &mut Random, _: &mut Draft, plan: &mut Plan) {
     let others = plan.records() - 2 * usize::from(plan.n_cm[0]);
-    let most = (MAX_RECORDS - others) / 2;
+    let most = MAX_RECORDS.saturating_sub(others) / 2;
     plan.n_cm[0] = random.pick(&[most as u16, most as u16 + 1, u16::MAX]);
     if random.chance(20) {
         plan.q_deg = u16::MAX;
     }
 }
 
-fn operation(random: &mut Random, pool: &Draft) -> Option<usize> {
-    let is_operation = |&n: &usize| pool.nodes[n].kind.is_operation();
-    choice(random, (0..pool.nodes.len()).filter(is_operation))
+fn parent(random: &mut Random, pool: &Draft) -> Option<usize> {
+    let has_children = |&n: &usize| !pool.nodes[n].children.is_empty();
+    choice(random, (0..pool.nodes.len()).filter(has_children))
 }
 
 fn leaf(random: &mut Random, pool: &Draft) -> Option<usize> {
@@ -82,7 +82,7 @@ fn choice<T: Copy>(random: &mut Random, from: impl Iterator<Item = T>) -> Option
 }
 
 fn another_child_count(random: &mut Random, pool: &mut Draft, _: &mut Plan) {
-    if let Some(node) = operation(random, pool) {
+    if let Some(node) = parent(random, pool) {
         let children = &mut pool.nodes[node].children;
         match random.chance(50) {
             true => children.truncate(children.len() - 1),
@@ -92,7 +92,7 @@ fn another_child_count(random: &mut Random, pool: &mut Draft, _: &mut Plan) {
 }
 
 fn a_child_that_is_not_free(random: &mut Random, pool: &mut Draft, _: &mut Plan) {
-    if let Some(node) = operation(random, pool) {
+    if let Some(node) = parent(random, pool) {
         let any = random.below(node) as u16;
         let children = &mut pool.nodes[node].children;
         let last = children.len() - 1;
@@ -164,7 +164,7 @@ fn bits_out_of_range(random: &mut Random, _: &mut Draft, plan: &mut Plan) {
 /// More, so that cm leaves stay in range; now and then fewer.
 fn other_counts(random: &mut Random, _: &mut Draft, plan: &mut Plan) {
     match random.below(6) {
-        0 => plan.q_deg += 1,
+        0 => plan.q_deg = plan.q_deg.saturating_add(1),
         1 => plan.n_cm[3] = plan.n_cm[3].saturating_sub(1),
         2 => plan.pe.push(Ratio::default()),
         place => plan.n_cm[place - 2] += 1,

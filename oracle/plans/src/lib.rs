@@ -3,13 +3,14 @@
 //! `plan`, `input` and `lists` are what is asked about, `refusals`, `input` and `dimensions` say what
 //! document 01 refuses; `original_map`, `sections` and `walks` ask the original, `mapped` is what
 //! `map` answers. `question` puts these together, `text` and `vectors` write and read them; `surprises`,
-//! `edges` and `shapes` (by way of `written`), `random`, `faults` and `random_lists` think up
+//! `edges`, `list_edges` and `shapes` (by way of `written`), `random`, `faults` and `random_lists` think up
 //! questions, `stored` keeps them, `tally` counts and compares.
 
 pub mod dimensions;
 pub mod edges;
 pub mod faults;
 pub mod input;
+pub mod list_edges;
 pub mod lists;
 pub mod mapped;
 pub mod original_map;

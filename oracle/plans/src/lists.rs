@@ -131,7 +131,7 @@ impl Step {
     }
 
     /// The same step as the original now holds it.
-    fn from_original(&self, section: &code::Section) -> Result<Step, String> {
+    fn after(&self, section: &code::Section) -> Result<Step, String> {
         if section.op != self.word() || section.src.len() != self.src.len() {
             return Err(format!("the original made of `{}` the step {:?}", self, section));
         }
@@ -172,12 +172,12 @@ impl Segment {
     }
 
     /// The same segment as the original now holds it.
-    pub fn from_original(&self, segment: &code::Segment) -> Result<Segment, String> {
+    pub fn after(&self, segment: &code::Segment) -> Result<Segment, String> {
         Ok(Segment {
             counter: segment.tmp_used,
-            first: list_from_original(&self.first, &segment.first)?,
-            i: list_from_original(&self.i, &segment.i)?,
-            last: list_from_original(&self.last, &segment.last)?,
+            first: list_after(&self.first, &segment.first)?,
+            i: list_after(&self.i, &segment.i)?,
+            last: list_after(&self.last, &segment.last)?,
         })
     }
 
@@ -199,11 +199,11 @@ impl Segment {
     }
 }
 
-fn list_from_original(steps: &[Step], sections: &[code::Section]) -> Result<Vec<Step>, String> {
+fn list_after(steps: &[Step], sections: &[code::Section]) -> Result<Vec<Step>, String> {
     if steps.len() != sections.len() {
         return Err(format!("the original made {} steps of {}", sections.len(), steps.len()));
     }
-    steps.iter().zip(sections).map(|(step, section)| step.from_original(section)).collect()
+    steps.iter().zip(sections).map(|(step, section)| step.after(section)).collect()
 }
 
 fn step(text: &str) -> Result<Step, String> {
@@ -326,7 +326,7 @@ last f:0 = step05
     #[test]
     fn the_original_holds_every_field() {
         let segment = parsed(TEXT);
-        assert_eq!(segment.from_original(&segment.to_original()), Ok(segment));
+        assert_eq!(segment.after(&segment.to_original()), Ok(segment));
     }
 
     #[test]

@@ -21,10 +21,10 @@ pub enum Question {
 #[derive(Clone, Debug, PartialEq, Eq)]
 pub enum Answer {
     Refused(u8),
-    Mapped(Mapped),
+    Mapped(Box<Mapped>),
     ExpDims(Vec<usize>),
     Segment(Segment),
-    Placed(Placed),
+    Placed(Box<Placed>),
 }
 
 impl Question {
@@ -60,7 +60,9 @@ pub fn ask(question: &Question) -> Result<Answer, String> {
 fn answer(question: &Question) -> Result<Answer, Refused> {
     let unforeseen = |Panic(text): Panic| Refused::Not(format!("the original panics: {}", text));
     match question {
-        Question::Map(input) => expected(input).map(|(_, _, mapped)| Answer::Mapped(mapped)),
+        Question::Map(input) => {
+            expected(input).map(|(_, _, mapped)| Answer::Mapped(Box::new(mapped)))
+        }
         Question::ExpDims(input) => {
             let (pool, plan, mapped) = expected(input)?;
             ask_exp_dims(&pool, &plan, &mapped).map(Answer::ExpDims).map_err(unforeseen)
@@ -70,7 +72,7 @@ fn answer(question: &Question) -> Result<Answer, Refused> {
             ask_walk(&pool, &plan, &mapped, *walk, segment).map(Answer::Segment)
         }
         Question::Sections(records) => {
-            ask_sections(records).map(Answer::Placed).map_err(unforeseen)
+            ask_sections(records).map(Box::new).map(Answer::Placed).map_err(unforeseen)
         }
     }
 }

@@ -1,6 +1,7 @@
 //! The stored list of vectors: what is in it, and its header.
 
 use crate::edges;
+use crate::list_edges;
 use crate::question::{ask, Question};
 use crate::shapes;
 use crate::surprises;
@@ -110,7 +111,13 @@ fn named(index: u64, Labelled { label, question }: Labelled) -> Case {
 /// The whole file. Call it on a large stack.
 pub fn text() -> Result<String, String> {
     let mut text = HEADER.to_string();
-    let chosen = [surprises::documents(), surprises::surprises(), edges::edges(), shapes::shapes()];
+    let chosen = [
+        surprises::documents(),
+        surprises::surprises(),
+        edges::edges(),
+        list_edges::edges(),
+        shapes::shapes(),
+    ];
     for case in chosen.concat().into_iter().chain(random()?) {
         text.push('\n');
         text.push_str(&Vector::of(case)?.to_string());

@@ -15,14 +15,14 @@ use std::collections::HashSet;
 /// The largest number of a list's record.
 const MAX_NUMBER: usize = u16::MAX as usize;
 
-#[derive(Clone, Copy, Debug, PartialEq, Eq, PartialOrd, Ord)]
+#[derive(Clone, Copy, Debug, PartialEq, Eq)]
 pub enum Domain {
     N,
     TwoNs,
 }
 
 /// What is done to a segment.
-#[derive(Clone, Copy, Debug, PartialEq, Eq, PartialOrd, Ord)]
+#[derive(Clone, Copy, Debug, PartialEq, Eq)]
 pub enum Walk {
     Fix(Domain),
     /// Fixing in "2ns", then the walk of the verifier's query code.
@@ -96,8 +96,8 @@ pub fn ask_walk(
         None => refusal(plan, mapped, walk, segment),
     };
     match (foreseen, run_walk(pool, plan, walk, segment)) {
-        (None, Ok(after)) => {
-            let answer = segment.from_original(&after).map_err(Refused::Not)?;
+        (None, Ok(walked)) => {
+            let answer = segment.after(&walked).map_err(Refused::Not)?;
             // The original's numbers have no limit.
             if answer.counter > MAX_NUMBER {
                 return Err(Refused::With(FULL));
