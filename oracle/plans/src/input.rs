@@ -134,3 +134,40 @@ fn counts_agree(plan: &Plan) -> bool {
         && n_cm3 == plan.products() + plan.intermediates.len()
         && n_cm4 == usize::from(plan.q_deg)
 }
+
+#[cfg(test)]
+mod tests {
+    use super::*;
+    use crate::refusals::MALFORMED;
+    use crate::written::{pool, with_columns, SMALL};
+    use judge::case::cm;
+
+    fn input() -> Input {
+        Input::new(pool(&[cm(0)]), &with_columns(1, SMALL))
+    }
+
+    #[test]
+    fn a_pool_past_its_limits_is_9() {
+        assert!(input().admitted().is_ok());
+        let mut nodes = input();
+        nodes.pool.nodes = vec![nodes.pool.nodes[0].clone(); MAX_NODES];
+        assert!(nodes.admitted().is_ok());
+        nodes.pool.nodes.push(nodes.pool.nodes[0].clone());
+        assert_eq!(nodes.admitted(), Err(FULL));
+        let mut expressions = input();
+        expressions.pool.expressions = vec![expressions.pool.expressions[0]; MAX_EXPRESSIONS];
+        assert_eq!(expressions.admitted(), Err(NOT_THERE));
+        expressions.pool.expressions.push(expressions.pool.expressions[0]);
+        assert_eq!(expressions.admitted(), Err(FULL));
+    }
+
+    /// Frames are read before the plan.
+    #[test]
+    fn the_pools_9_comes_before_the_plans_1() {
+        let mut input = input();
+        input.plan.pop();
+        assert_eq!(input.admitted(), Err(MALFORMED));
+        input.pool.nodes = vec![input.pool.nodes[0].clone(); MAX_NODES + 1];
+        assert_eq!(input.admitted(), Err(FULL));
+    }
+}

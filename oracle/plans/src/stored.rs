@@ -21,8 +21,9 @@ const HEADER: &str = "\
 # Made in the folder oracle/ by:   plans write > ../vectors/plans.txt
 # Compared with the original by:   plans check ../vectors/plans.txt
 #
-# Refusals have document 01's numbers. Those of a plan are decided by the document's rules, in its order,
-# and those of lists must also be panics of the original; what is accepted is the original's word.
+# Refusals have document 01's numbers. Those of a plan are decided by the document's rules, in its order;
+# those of lists are panics of the original, but for 9: a counter above 65,535. What is accepted is the
+# original's word.
 #
 # Lines that begin with # and empty lines say nothing. A vector is:
 #

@@ -172,12 +172,18 @@ fn m06_fixing_keeps_the_prime() -> Vec<Case> {
 
 fn m07_an_intermediate_has_no_p() -> Vec<Case> {
     let list = ["first exp:0 = add exp:0 cm:3", "i cm:3@p9 = copy exp:0@p9"];
-    let ask = |name: &str, kind| {
-        Case::new(name, walk(&trees(), &a_product_and_an_intermediate(), kind, &list))
-    };
+    let one = a_product_and_an_intermediate();
+    let crossed = vec![intermediate(0, 4), intermediate(1, 3)];
+    let two = with_columns(2, Plan { intermediates: crossed, ..one.clone() });
+    let both = ["first exp:1' = add exp:0 exp:1", "last exp:0 = copy exp:1"];
+    let ask =
+        |name: &str, plan, kind, lines: &[&str]| Case::new(name, walk(&trees(), plan, kind, lines));
     vec![
-        ask("m07-domain-n", FIX_N).note("a p that stood there before stays"),
-        ask("m07-domain-2ns", FIX_2NS),
+        ask("m07-domain-n", &one, FIX_N, &list).note("a p that stood there before stays"),
+        ask("m07-domain-2ns", &one, FIX_2NS, &list),
+        ask("m07-two-in-domain-n", &two, FIX_N, &both),
+        ask("m07-two-in-domain-2ns", &two, FIX_2NS, &both),
+        ask("m07-two-in-the-query-code", &two, Walk::Query, &both),
     ]
 }
 

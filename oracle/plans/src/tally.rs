@@ -57,16 +57,30 @@ fn on_a_refused_plan(random: &mut Random, input: Input) -> Labelled {
 #[derive(Clone, Debug, Default, PartialEq, Eq)]
 pub struct Tally {
     rows: BTreeMap<String, BTreeMap<u8, u64>>,
+    /// Of an accepted plan.
+    most_records: usize,
+    /// Of accepted lists.
+    steps: usize,
+    most_steps: usize,
 }
 
 const ACCEPTED: u8 = 0;
 
 impl Tally {
     fn count(&mut self, label: &str, answer: &Answer) {
-        let number = match answer {
-            Answer::Refused(number) => *number,
-            _ => ACCEPTED,
-        };
+        let mut number = ACCEPTED;
+        match answer {
+            Answer::Refused(refusal) => number = *refusal,
+            Answer::Mapped(mapped) => {
+                self.most_records = self.most_records.max(mapped.records.len());
+            }
+            Answer::Segment(segment) => {
+                let steps = segment.steps().count();
+                self.steps += steps;
+                self.most_steps = self.most_steps.max(steps);
+            }
+            Answer::ExpDims(_) | Answer::Placed(_) => {}
+        }
         *self.rows.entry(label.to_string()).or_default().entry(number).or_default() += 1;
     }
 
@@ -139,7 +153,12 @@ impl fmt::Display for Tally {
             }
             writeln!(f)?;
         }
-        Ok(())
+        writeln!(f, "\nMost records of a plan: {}", self.most_records)?;
+        writeln!(
+            f,
+            "Steps of accepted lists: {}, most in a segment: {}",
+            self.steps, self.most_steps
+        )
     }
 }
 
