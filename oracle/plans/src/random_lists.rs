@@ -61,7 +61,7 @@ struct Drawn<'a> {
 }
 
 /// Kinds of sources that the walks take.
-const SOURCES: [Kind; 9] = [
+const SOURCES: [Kind; 10] = [
     Kind::CM,
     Kind::CM,
     Kind::CONST,
@@ -71,9 +71,10 @@ const SOURCES: [Kind; 9] = [
     Kind::ZI,
     Kind::X,
     Kind::X_DIV_X_SUB_XI,
+    Kind::X_DIV_X_SUB_WXI,
 ];
 
-/// Kinds that the dimension pass takes and fixing does not make or take of every list.
+/// Kinds of sources that the dimension pass takes and fixing does not.
 const OF_DIMENSIONS: [Kind; 5] = [Kind::TREE1, Kind::TREE2, Kind::TREE3, Kind::TREE4, Kind::Z];
 
 /// Kinds of destinations that the walks take.

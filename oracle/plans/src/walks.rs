@@ -276,6 +276,11 @@ impl Pass<'_> {
 #[cfg(test)]
 mod tests {
     use super::*;
+    use crate::original_map::expected;
+    use crate::random;
+    use judge::kinds;
+    use judge::random::Random;
+    use judge::run::on_large_stack;
 
     #[test]
     fn a_panic_means_what_it_says() {
@@ -291,6 +296,32 @@ mod tests {
         assert_eq!(means("Invalid op: step05"), [NO_RULE]);
         assert_eq!(means("called `Option::unwrap()` on a `None` value"), [NO_RULE]);
         assert!(means("Invalid cm section").is_empty());
+    }
+
+    /// `map` does not show which column an expression has; fixing does.
+    #[test]
+    fn temporary_columns_are_those_that_fixing_gives() {
+        let mut seen = 0;
+        for index in 0..300 {
+            let input = random::input(&mut Random::new(5, index));
+            let (pool, plan, mapped) = match on_large_stack(|| Ok(expected(&input))).unwrap() {
+                Ok(accepted) => accepted,
+                Err(_) => continue,
+            };
+            for (number, column) in mapped.temporary_columns.iter().enumerate() {
+                let dest = Reference::new(Kind::EXP, column.expression);
+                let copy = Step { op: kinds::Step::COPY.byte(), dest, src: vec![dest] };
+                let segment = Segment { first: vec![copy], ..Segment::default() };
+                let fix = || Ok(ask_walk(&pool, &plan, &mapped, Walk::Fix(Domain::N), &segment));
+                let fixed = on_large_stack(fix).unwrap().unwrap();
+                assert_eq!(
+                    (fixed.first[0].dest.kind, fixed.first[0].dest.id),
+                    (Kind::TMP_EXP, number)
+                );
+                seen += 1;
+            }
+        }
+        assert!(seen > 100, "{} columns", seen);
     }
 
     #[test]
