@@ -15,7 +15,7 @@ use Rattle.meaning.specs.Running as running
 use Rattle.meaning.specs.Running.{Store, writable, computes, exec, run}
 use Rattle.meaning.specs.Laws.Tests.{bind-some, each-join, each-map}
 use Rattle.meaning.specs.Laws.Cells.{same-eq, same-refl}
-use Rattle.evaluator.specs.Evaluation.{isAmong, adding, writing, writtenAfter, Valued, heldIn, valuedBy}
+use Rattle.evaluator_run.specs.Evaluation.{isAmong, adding, writing, writtenAfter, Valued, heldIn, valuedBy}
 
 member-left : {A : Type 0} (a : A) (xs ys : List A) → Member a xs → Member a (xs ++ ys)
 member-left a [] ys h = absurd h
