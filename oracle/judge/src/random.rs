@@ -8,16 +8,17 @@ use crate::pool::{self, Expression, Flags, Node, Pool, MAX_EXPRESSIONS, MAX_NODE
 use crate::script::{Command, Script, MAX_REQUESTS};
 
 /// SplitMix64.
-struct Random(u64);
+#[derive(Clone, Debug)]
+pub struct Random(u64);
 
 impl Random {
     /// A stream of its own for each index, so that a case does not depend on how many come first.
-    fn new(seed: u64, index: u64) -> Random {
+    pub fn new(seed: u64, index: u64) -> Random {
         let mut of_seed = Random(seed);
-        Random(of_seed.next() ^ Random(index).next())
+        Random(of_seed.number() ^ Random(index).number())
     }
 
-    fn next(&mut self) -> u64 {
+    pub fn number(&mut self) -> u64 {
         self.0 = self.0.wrapping_add(0x9e37_79b9_7f4a_7c15);
         let z = (self.0 ^ (self.0 >> 30)).wrapping_mul(0xbf58_476d_1ce4_e5b9);
         let z = (z ^ (z >> 27)).wrapping_mul(0x94d0_49bb_1331_11eb);
@@ -25,7 +26,7 @@ impl Random {
     }
 
     fn below(&mut self, limit: usize) -> usize {
-        (self.next() % limit as u64) as usize
+        (self.number() % limit as u64) as usize
     }
 
     fn between(&mut self, low: usize, high: usize) -> usize {
@@ -248,7 +249,7 @@ fn random_id(random: &mut Random) -> u16 {
 
 fn random_literal(random: &mut Random) -> Literal {
     let edges = [0, 1, 2, i64::MAX as u64, 1 << 63, u64::MAX];
-    let magnitude = if random.chance(70) { random.pick(&edges) } else { random.next() };
+    let magnitude = if random.chance(70) { random.pick(&edges) } else { random.number() };
     let minus = magnitude != 0 && random.chance(50);
     Literal::new(minus, magnitude).expect("not minus zero")
 }
@@ -258,7 +259,7 @@ fn random_i64(random: &mut Random) -> i64 {
     if random.chance(70) {
         random.pick(&edges)
     } else {
-        random.next() as i64
+        random.number() as i64
     }
 }
 
