@@ -2,22 +2,21 @@
 -- evaluator, called with those frames and the bytes of that list, answers for each requested cell the expression's value modulo m. Assumes nothing.
 use Prim.Native.Nat.{ℕ, _*_, _<_, _≤_}
 use mathlib.Core.Path.{_≡_, refl, sym, _∙_, ap, subst}
-use mathlib.Core.Bool.{Bool, true, _&&_}
-use mathlib.Core.Option.{Option, none, some, Option·none-ne-some}
+use mathlib.Core.Bool.{true}
+use mathlib.Core.Option.{some, Option·none-ne-some}
 use mathlib.Core.List.{List, []}
 use native.Mathlib.Omega.{arith}
 use lib.ListN.{length}
-use lib.Dec.{leb}
 use borrow.Author.Tests.{le-leb}
 use Rattle.kinds.specs.Write.{write}
 use Rattle.meaning.specs.Refusals.{Answer, done, refused, answerNo, _then_}
-use Rattle.meaning.specs.Trees.{Forest, Acyclic, Each, Member}
+use Rattle.meaning.specs.Trees.{Acyclic, Each, Member}
 use Rattle.meaning.specs.Values.{value}
 use Rattle.meaning.specs.Models.{modulo}
-use Rattle.meaning.specs.Steps.{Cell, Step, expCell}
+use Rattle.meaning.specs.Steps.{expCell}
 use Rattle.meaning.specs.Running.{empty}
 use Rattle.meaning.specs.Generation.{Request, start, serveAll}
-use Rattle.meaning.specs.Building.{Segment, segment, whole}
+use Rattle.meaning.specs.Building.{Segment, whole}
 use Rattle.meaning.specs.Demand3.{NoResult, Throughout, Fed, Computes, ValueFor, HeldFor}
 use Rattle.meaning.specs.Proved.{demand3-fed}
 use Rattle.meaning.specs.Laws.Tests.{then-done, done-same, number-not-zero, each-both}
@@ -39,7 +38,6 @@ use Rattle.requests.specs.Serving.{plain-requests, accepted}
 use Rattle.requests.specs.Exactly.{rows-low}
 use Rattle.output.specs.Shown.{StepSays}
 use Rattle.output.specs.Whole.{whole-says}
-use Rattle.evaluator_cells.specs.Cells.{cellLimit}
 use Rattle.evaluator_cells.specs.Keyed.{valuedSize}
 use Rattle.evaluator_cells.specs.Given.{lent, given, goodValues}
 use Rattle.evaluator_cells.specs.Literals.{broughtAt}

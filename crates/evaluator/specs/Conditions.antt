@@ -1,16 +1,15 @@
 -- THE CONDITIONS OF 1 AND 10 IN FULL: which record is malformed, which values are, and at which step a run is refused. Each is equivalent to the test of the definition.
 -- Assumes nothing.
-use Prim.Native.Nat.{ℕ, zero, suc, _+_, _*_, _%_, _<_, _≤_}
+use Prim.Native.Nat.{ℕ, zero, suc, _+_, _*_, _%_, _<_}
 use mathlib.Core.Path.{_≡_, refl, sym, _∙_, ap, subst}
-use mathlib.Core.Bool.{Bool, true, false, cond, _&&_}
+use mathlib.Core.Bool.{Bool, true, false, _&&_}
 use mathlib.Core.Option.{Option, none, some, Option·none-ne-some}
 use mathlib.Core.List.{List, [], _∷_, _++_}
 use mathlib.Core.Logic.{_⊎_, inl, inr, _↔_}
-use native.Mathlib.Nat.{eq-or-lt-of-le}
 use native.Mathlib.Omega.{arith}
 use lib.ListN.{length}
 use lib.Dec.{eqb, leb}
-use borrow.Author.Tests.{leb-false, lt-leb, eqb-false, ne-eqb, eqb-true, eq-eqb}
+use borrow.Author.Tests.{leb-false, lt-leb, eqb-false, ne-eqb}
 use Rattle.kinds.specs.Kinds.{isReference}
 use Rattle.kinds.specs.Steps.{stepSize, stepAt, stepsOf, steps-none}
 use Rattle.kinds.specs.declared.reference.Reference.{Reference}
@@ -19,7 +18,7 @@ use Rattle.meaning.specs.Trees.{Lit}
 use Rattle.meaning.specs.Values.{bind}
 use Rattle.meaning.specs.Models.{modulo}
 use Rattle.meaning.specs.Steps.{Step}
-use Rattle.meaning.specs.Running.{Store, empty, exec, run}
+use Rattle.meaning.specs.Running.{Store, exec, run}
 use Rattle.meaning.specs.Laws.Tests.{bind-some}
 use Rattle.evaluator_cells.specs.Given.{Lent, given, sectionCount, startOf, goodValues}
 use Rattle.evaluator_run.specs.Evaluation.{wellFormed}

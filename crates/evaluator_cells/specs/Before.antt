@@ -1,6 +1,6 @@
 -- What a cell has before a step writes it, by the byte of its kind; and what the code asks of the words and numbers that it reads with.
 -- Assumes nothing: these are definitions.
-use Prim.Native.Nat.{ℕ, _<_, _≤_}
+use Prim.Native.Nat.{ℕ, _<_}
 use mathlib.Core.Path.{_≡_}
 use mathlib.Core.Bool.{true, cond}
 use mathlib.Core.Option.{Option, none, some}

@@ -4,8 +4,7 @@
 use kinds::kind::Kind;
 use kinds::reference::Reference;
 ghost use mathlib.Core.Path.{_≡_};
-ghost use Prim.Native.Nat.{ℕ, _+_, _≤_, _<_};
-ghost use lib.ListN.{getD, set};
+ghost use Prim.Native.Nat.{ℕ, _+_, _<_};
 ghost use Rattle.evaluator_cells.specs.Cells.{cellLimit, keyNo, placeNo, writableNo, idIn, indexOf, Chained, FindAsked, Adds};
 
 pub const CELL_LIMIT: usize = 16384;

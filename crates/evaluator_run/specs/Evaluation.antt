@@ -1,9 +1,10 @@
 -- THE EVALUATOR (document 01, added): a list run downwards modulo m. The answer is the final value of every cell written, in the order in which the
--- cells are first written. 1: a modulus below 2, a malformed record, or values that do not fill their sections. 10: a step that running refuses: an unknown step byte or too few sources, a
--- source neither written nor given, a destination of a kind that no step writes. 9, last: more cells than the limit or than the lent room.
+-- cells are first written. 1: a modulus below 2, a malformed record, or values that do not fill their sections. 10: a step that running refuses: an
+-- unknown step byte or too few sources, a source neither written nor given, a destination of a kind that no step writes. 9, last: more cells than the
+-- limit or than the lent room.
 -- Assumes nothing: these are definitions.
-use Prim.Native.Nat.{ℕ, _+_, _*_, _/_, _%_}
-use mathlib.Core.Bool.{Bool, true, false, cond, _&&_, _||_}
+use Prim.Native.Nat.{ℕ, _+_, _*_}
+use mathlib.Core.Bool.{Bool, false, cond, _&&_, _||_}
 use mathlib.Core.Option.{Option, none, some}
 use mathlib.Core.List.{List, [], _∷_, _++_}
 use lib.ListN.{length}

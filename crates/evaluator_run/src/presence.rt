@@ -12,8 +12,6 @@ use kinds::step::STEP_SIZE;
 use kinds::step::Step;
 use kinds::step::nth_step;
 ghost use mathlib.Core.Path.{_≡_};
-ghost use mathlib.Core.List.{List};
-ghost use Prim.Native.Nat.{ℕ};
 ghost use lib.ListN.{replicate};
 ghost use Rattle.evaluator_cells.specs.Given.{lent};
 ghost use Rattle.evaluator_step.specs.Decoding.{recordsIn};

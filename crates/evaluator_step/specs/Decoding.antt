@@ -2,7 +2,7 @@
 -- A record is malformed (1) where it counts more than three sources, or where its destination or one of the sources that it counts has an unknown
 -- kind or a prime other than 0 and 1. A record that is well formed says a step unless its step byte is unknown (10).
 -- Assumes nothing: these are definitions.
-use Prim.Native.Nat.{ℕ, _*_, _/_, _%_}
+use Prim.Native.Nat.{ℕ, _/_, _%_}
 use mathlib.Core.Bool.{Bool, true, cond, _&&_}
 use mathlib.Core.Option.{Option, none, some}
 use mathlib.Core.List.{List, [], _∷_}

@@ -1,15 +1,14 @@
 -- THE ANSWER, by the way that the code comes to it: each is what Answer.antt says.
 -- Assumes nothing.
-use Prim.Native.Nat.{ℕ, _<_, _≤_}
+use Prim.Native.Nat.{ℕ, _≤_}
 use mathlib.Core.Path.{_≡_, refl, sym, _∙_, ap, subst}
 use mathlib.Core.Bool.{Bool, true, false, _&&_}
-use mathlib.Core.Option.{Option, none, some}
+use mathlib.Core.Option.{Option, none}
 use mathlib.Core.List.{List, []}
-use native.Mathlib.Omega.{arith}
 use lib.ListN.{length, replicate}
 use lib.Dec.{leb}
 use borrow.Author.Tests.{leb-true}
-use Rattle.meaning.specs.Refusals.{Refusal, Answer, done, refused, _then_}
+use Rattle.meaning.specs.Refusals.{Refusal, Answer, done, refused}
 use Rattle.meaning.specs.Laws.Tests.{and-left, and-right, done-same, done-not-refused, true-false}
 use Rattle.frames.specs.Order.{Input, blameAnswer, nodeLimit}
 use Rattle.frames.specs.Tables.{Tables, inputIn}
@@ -30,11 +29,11 @@ use Rattle.evaluator_cells.specs.Numbers.{Modulus}
 use Rattle.evaluator_cells.specs.Given.{lent, goodValues}
 use Rattle.evaluator_cells.specs.Literals.{broughtAt, NumbersAre, NumbersOf, FillAsks}
 use Rattle.evaluator_cells.specs.Laws.Literals.{numbers-of, numbers-below}
-use Rattle.evaluator_run.specs.Evaluation.{Valued, wellFormed, ruling, outAfter}
+use Rattle.evaluator_run.specs.Evaluation.{Valued, wellFormed, ruling}
 use Rattle.evaluator_run.specs.Computing.{ComputeAsks, ComputeGiven, computedSays}
 use Rattle.evaluator_run.specs.declared.compute.Computed.{Computed}
 use Rattle.evaluator_run.specs.declared.compute.Computed.the-variants as computed
-use Rattle.evaluator.specs.Answer.{Judged, Evaluates, answerSays, Tells, EvaluationIs, PoolAsks, PoolEvaluated, ReadEvaluated}
+use Rattle.evaluator.specs.Answer.{Judged, Evaluates, answerSays, Tells, PoolAsks, PoolEvaluated, ReadEvaluated}
 use Rattle.evaluator.specs.declared.evaluate.Evaluation.{Evaluation}
 use Rattle.evaluator.specs.declared.evaluate.Evaluation.the-variants as answer
 

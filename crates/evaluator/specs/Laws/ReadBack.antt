@@ -1,16 +1,16 @@
 -- THE BYTES OF A LIST OF STEPS, READ BACK: its records are well formed and say those steps, where each number reference carries what its node brings.
 -- Assumes nothing.
-use Prim.Native.Nat.{ℕ, zero, suc, _+_, _*_, _/_, _%_, _<_, _≤_}
+use Prim.Native.Nat.{ℕ, _+_, _*_, _%_, _<_, _≤_}
 use mathlib.Core.Path.{_≡_, refl, sym, _∙_, ap}
-use mathlib.Core.Bool.{Bool, true, false, cond, _&&_}
-use mathlib.Core.Option.{Option, none, some}
+use mathlib.Core.Bool.{true, false}
+use mathlib.Core.Option.{some}
 use mathlib.Core.List.{List, [], _∷_, _++_, append-nil}
 use native.Mathlib.Nat.{div-add-mod', mul-mod-right}
 use native.Mathlib.Omega.{arith}
-use lib.ListN.{length, drop}
+use lib.ListN.{length}
 use lib.Seq.{drop-length}
-use lib.Dec.{eqb, leb, ltb}
-use borrow.Author.Tests.{le-leb, lt-ltb, eq-eqb}
+use lib.Dec.{eqb}
+use borrow.Author.Tests.{le-leb, eq-eqb}
 use Rattle.kinds.specs.KindBytes as kind
 use Rattle.kinds.specs.Kinds.{isReference, isLeaf}
 use Rattle.kinds.specs.Range.{within}
@@ -18,13 +18,13 @@ use Rattle.kinds.specs.Write.{write, write-is}
 use Rattle.kinds.specs.Steps.{stepSize, stepsOf, stepsBytes, steps-none, steps-joined, steps-bytes-length}
 use Rattle.kinds.specs.declared.reference.Reference.{Reference}
 use Rattle.kinds.specs.declared.step.Step as bytes
-use Rattle.meaning.specs.Trees.{Lit, RowKind, FlatKind, XKind, Each, upTo}
+use Rattle.meaning.specs.Trees.{RowKind, FlatKind, XKind, Each, upTo}
 use Rattle.meaning.specs.Steps.{BareKind, Kind, kindNo, Cell, Ref, StepOp, stepNo, Step}
 use Rattle.starkinfo_codegen.specs.Encoding.{refOf, sourceOf, stepRecord, records, records-length, encoded, encoded-length}
 use Rattle.output.specs.Shown.{IsCell, RefSays, StepSays}
 use Rattle.pool.specs.Pool.{Pool}
 use Rattle.evaluator_cells.specs.Literals.{broughtAt}
-use Rattle.evaluator_step.specs.Decoding.{recordCount, recordsIn, countedIn, goodReference, goodReferences, goodRecord, goodRecords, goodList, kindFrom, opFrom, refFrom, refsFrom, stepFrom, stepsFrom}
+use Rattle.evaluator_step.specs.Decoding.{recordCount, recordsIn, goodReference, goodReferences, goodRecord, goodRecords, goodList, kindFrom, opFrom, refFrom, refsFrom, stepFrom, stepsFrom}
 
 -- ---- kinds and steps
 

@@ -1,7 +1,7 @@
 -- Laws of numbers modulo m.
 -- Assumes nothing.
 use Prim.Native.Nat.{ℕ, _+_, _*_, _-_, _%_, _<_, _≤_}
-use mathlib.Core.Path.{_≡_, refl}
+use mathlib.Core.Path.{_≡_}
 use mathlib.Core.Bool.{Bool, true, false}
 use native.Mathlib.Nat.{mul-le-mul, mod-lt, mod-eq-of-lt}
 use native.Mathlib.Omega.{arith}

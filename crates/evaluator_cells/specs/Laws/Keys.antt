@@ -1,7 +1,7 @@
 -- Laws of cells as numbers: no two cells have one key, and what meaning says of a kind is what its byte says.
 -- Assumes nothing.
-use Prim.Native.Nat.{ℕ, _+_, _*_, _<_, _≤_}
-use mathlib.Core.Path.{_≡_, refl, sym, _∙_, ap}
+use Prim.Native.Nat.{ℕ, _<_}
+use mathlib.Core.Path.{_≡_, refl}
 use mathlib.Core.Bool.{Bool, true, false, cond}
 use native.Mathlib.Omega.{arith}
 use lib.Dec.{eqb, ltb}
@@ -12,7 +12,7 @@ use Rattle.meaning.specs.Trees.{RowKind, FlatKind, XKind}
 use Rattle.meaning.specs.Steps.{BareKind, Kind, kindNo, Cell, place}
 use Rattle.meaning.specs.Running.{writable, before}
 use Rattle.meaning.specs.Laws.Cells.{kind-same}
-use Rattle.evaluator_cells.specs.Given.{Lent, given, rowAt, wordAt}
+use Rattle.evaluator_cells.specs.Given.{Lent, given}
 use Rattle.evaluator_cells.specs.Cells.{idLimit, keyNo, writableNo}
 use Rattle.evaluator_cells.specs.Keyed.{keyLimit}
 use Rattle.evaluator_cells.specs.Before.{beforeIn}

@@ -2,7 +2,7 @@
 -- Assumes nothing.
 use Prim.Native.Nat.{ℕ, zero, suc, _+_, _<_, _≤_}
 use mathlib.Core.Path.{_≡_, refl, sym, _∙_, ap}
-use mathlib.Core.Bool.{Bool, true, false, cond}
+use mathlib.Core.Bool.{Bool, true, false}
 use mathlib.Core.Option.{none}
 use mathlib.Core.List.{List, [], _∷_}
 use native.Mathlib.Nat.{mod-eq-of-lt}
@@ -16,7 +16,7 @@ use Rattle.kinds.specs.Range.{within}
 use Rattle.meaning.specs.Trees.{Lit, lit, nth}
 use Rattle.meaning.specs.Models.{litMod}
 use Rattle.frames.specs.Order.{nodeLimit}
-use Rattle.pool.specs.Pool.{Pool, node, blank}
+use Rattle.pool.specs.Pool.{blank}
 use Rattle.pool.specs.Tabled.{Tables, tabled}
 use Rattle.pool.specs.Laws.Tabled.{node-count, node-at}
 use Rattle.output.specs.Records.{broughtBy, literalIn}

@@ -1,12 +1,12 @@
 -- Laws of the answer's bytes as they are put one after the other.
 -- Assumes nothing.
-use Prim.Native.Nat.{ℕ, zero, suc, _+_, _*_, _/_, _%_, _<_, _≤_}
-use mathlib.Core.Path.{_≡_, refl, sym, _∙_, ap}
+use Prim.Native.Nat.{ℕ, zero, suc, _+_, _*_, _/_, _%_, _≤_}
+use mathlib.Core.Path.{_≡_, refl, sym}
 use mathlib.Core.List.{List, [], _∷_, _++_}
 use native.Mathlib.Numerals.{add-one}
 use native.Mathlib.Omega.{arith}
 use lib.ListN.{length, getD, length-append}
-use Rattle.kinds.specs.Write.{write, write-next, write-none, write-length}
+use Rattle.kinds.specs.Write.{write, write-next, write-none}
 use Rattle.kinds.specs.BigEndian.{u16Bytes}
 use Rattle.output.specs.Output.{u32Bytes, u64Bytes}
 use Rattle.evaluator_cells.specs.Keyed.{valuedSize, keyedBytes, keyedTo}

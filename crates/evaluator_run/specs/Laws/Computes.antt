@@ -1,4 +1,4 @@
--- THE ANSWER, by the way that the code comes to it: each is what `evaluation` says.
+-- THE ANSWER, by the way that the code comes to it: each is what `ruling` says.
 -- Assumes nothing.
 use Prim.Native.Nat.{ℕ, zero, suc, _+_, _*_, _/_, _%_, _<_, _≤_}
 use mathlib.Core.Path.{_≡_, refl, sym, _∙_, ap, subst}
@@ -8,10 +8,10 @@ use mathlib.Core.List.{List, [], _∷_, _++_, append-assoc, append-nil}
 use native.Mathlib.Nat.{div-add-mod', mod-eq-of-lt, mul-add-mod-self-right}
 use native.Mathlib.Omega.{arith}
 use lib.ListN.{length, getD, replicate, length-replicate}
-use lib.Dec.{leb, ltb, eqb}
+use lib.Dec.{leb, eqb}
 use borrow.Author.Tests.{le-leb, lt-leb, leb-true}
 use Rattle.kinds.specs.Write.{write}
-use Rattle.kinds.specs.BigEndian.{u16At, u16Bytes}
+use Rattle.kinds.specs.BigEndian.{u16At}
 use Rattle.kinds.specs.References.{refAt}
 use Rattle.kinds.specs.Steps.{stepSize, stepAt, stepsOf, steps-none, steps-more}
 use Rattle.kinds.specs.declared.reference.Reference.{Reference}
@@ -23,15 +23,13 @@ use Rattle.meaning.specs.Models.{modulo}
 use Rattle.meaning.specs.Steps.{kindNo, Cell, Step}
 use Rattle.meaning.specs.Running.{Store, empty, run}
 use Rattle.meaning.specs.Laws.Tests.{and-left, and-right, each-join}
-use Rattle.output.specs.Output.{u64Bytes}
-use Rattle.evaluator_cells.specs.Literals.{Reduced, NumbersOf}
+use Rattle.evaluator_cells.specs.Literals.{NumbersOf}
 use Rattle.evaluator_cells.specs.Given.{Lent, lent, given}
-use Rattle.evaluator_step.specs.Decoding.{recordCount, recordsIn, countedIn, goodRecord, goodRecords, goodList, stepsFrom}
+use Rattle.evaluator_step.specs.Decoding.{recordCount, recordsIn, goodRecord, goodRecords, goodList, stepsFrom}
 use Rattle.evaluator_cells.specs.Cells.{cellLimit, idLimit, keyNo}
 use Rattle.evaluator_run.specs.Evaluation as evaluation
-use Rattle.evaluator_run.specs.Evaluation.{writtenAfter, written, Valued, heldIn, valuedBy, valuedBytes, valuesBytes, fitting, ruled, outAfter, ruling}
+use Rattle.evaluator_run.specs.Evaluation.{written, Valued, heldIn, valuedBy, valuedBytes, valuesBytes, fitting, ruled, outAfter, ruling}
 use Rattle.evaluator_cells.specs.Keyed.{valuedSize, keyedBytes, keyedTo, keyLimit}
-use Rattle.evaluator_cells.specs.Numbers.{Modulus}
 use Rattle.evaluator_step.specs.Machine.{Table, table, Kept, Outcome, next, noRule, over, runTo}
 use Rattle.evaluator_run.specs.Presence.{isKnown, slotCount, marksTo}
 use Rattle.evaluator_run.specs.Computing.{computedSays, PutAsks, PutGiven, ComputeAsks, ComputedIs, ComputeGiven}

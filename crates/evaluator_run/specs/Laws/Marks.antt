@@ -1,14 +1,14 @@
 -- Laws of the marks: what each way through the code answers.
 -- Assumes nothing.
-use Prim.Native.Nat.{ℕ, zero, suc, _+_, _*_, _-_, _%_, _<_, _≤_}
+use Prim.Native.Nat.{ℕ, suc, _+_, _*_, _-_, _%_, _<_, _≤_}
 use mathlib.Core.Path.{_≡_, refl, sym, _∙_, ap}
-use mathlib.Core.Bool.{Bool, true, false, cond, _||_}
+use mathlib.Core.Bool.{Bool, true, false, cond}
 use mathlib.Core.Option.{Option, none, some}
 use mathlib.Core.List.{List, [], _∷_, _++_}
 use native.Mathlib.Nat.{mod-lt}
 use native.Mathlib.Numerals.{add-one}
 use native.Mathlib.Omega.{arith}
-use lib.ListN.{length, getD, set, drop}
+use lib.ListN.{getD, set}
 use lib.Dec.{eqb}
 use borrow.Author.Tests.{eq-eqb, ne-eqb}
 use Rattle.kinds.specs.KindBytes as kind
@@ -20,10 +20,9 @@ use Rattle.evaluator_step.specs.Decoding.{recordCount, recordsIn}
 use Rattle.evaluator_cells.specs.Cells.{idLimit, writableNo}
 use Rattle.evaluator_cells.specs.Before.{known, beforeIn}
 use Rattle.evaluator_step.specs.Machine.{valueBy, readCount}
-use Rattle.evaluator_run.specs.Presence.{isKnown, classNo, slotCount, slotBy, slotNo, SlotIs, marked, seenAt, hasIn, markAs, markTo, onward, marksTo, marksAre}
+use Rattle.evaluator_run.specs.Presence.{isKnown, classNo, slotCount, slotBy, slotNo, SlotIs, seenAt, hasIn, markAs, markTo, onward, marksTo, marksAre}
 use Rattle.evaluator_step.specs.Laws.Steps.{gives-three, gives-no-third}
 use Rattle.evaluator_cells.specs.declared.given.Value.{Value}
-use Rattle.evaluator_cells.specs.declared.given.Value.the-variants as value
 
 -- ---- slots
 

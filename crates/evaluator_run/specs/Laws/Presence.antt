@@ -1,9 +1,9 @@
 -- THE MARKS AND THE STORE: where the marks say that a list runs, it runs, and where they do not, it does not. Of records that are well formed.
 -- Assumes nothing.
-use Prim.Native.Nat.{ℕ, zero, suc, _+_, _*_, _%_, _<_, _≤_}
+use Prim.Native.Nat.{ℕ, _%_, _<_, _≤_}
 use mathlib.Core.Path.{_≡_, refl, sym, _∙_, ap, subst}
 use mathlib.Core.Bool.{Bool, true, false, cond, _&&_, _||_}
-use mathlib.Core.Option.{Option, none, some, Option·none-ne-some}
+use mathlib.Core.Option.{Option, none, some}
 use mathlib.Core.List.{List, [], _∷_}
 use mathlib.Core.Logic.{_⊎_, inl, inr}
 use native.Mathlib.Nat.{mod-eq-of-lt, mod-lt}
@@ -11,7 +11,7 @@ use native.Mathlib.Omega.{arith}
 use lib.ListN.{length, getD, set, length-set, replicate, length-replicate}
 use lib.Seq.{getD-set-same, getD-set-other}
 use lib.Dec.{eqb, leb}
-use borrow.Author.Tests.{leb-true, eqb-true, eq-eqb}
+use borrow.Author.Tests.{leb-true, eqb-true}
 use Rattle.kinds.specs.KindBytes as kind
 use Rattle.kinds.specs.Kinds.{isReference}
 use Rattle.kinds.specs.declared.reference.Reference.{Reference}
@@ -26,7 +26,7 @@ use Rattle.meaning.specs.Laws.Cells.{same-eq, same-refl}
 use Rattle.meaning.specs.Laws.Tests.{and-left, and-right, true-false}
 use Rattle.evaluator_cells.specs.Given.{Lent, given}
 use Rattle.evaluator_step.specs.Decoding.{countedIn, goodReference, goodReferences, goodRecord, kindFrom, opFrom, refFrom, refsFrom, stepFrom, stepsFrom}
-use Rattle.evaluator_cells.specs.Cells.{idLimit, writableNo}
+use Rattle.evaluator_cells.specs.Cells.{writableNo}
 use Rattle.evaluator_cells.specs.Before.{beforeIn}
 use Rattle.evaluator_step.specs.Machine.{readsBy, valueBy}
 use Rattle.evaluator_run.specs.Presence.{isKnown, classNo, slotCount, slotBy, slotNo, marked, seenAt, hasIn, markAs, markTo, onward, marksTo}

@@ -1,12 +1,12 @@
 -- THE RUN OVER TABLES IS MEANING'S RUNNING, of records that are well formed: read, computed, written, step by step and list by list.
 -- Assumes nothing.
-use Prim.Native.Nat.{ℕ, zero, suc, _+_, _*_, _<_, _≤_}
-use mathlib.Core.Path.{_≡_, refl, sym, _∙_, ap, subst}
+use Prim.Native.Nat.{ℕ, _+_, _<_, _≤_}
+use mathlib.Core.Path.{_≡_, refl, ap}
 use mathlib.Core.Bool.{Bool, true, false, cond, _&&_}
 use mathlib.Core.Option.{Option, none, some, Option·none-ne-some}
 use mathlib.Core.List.{List, [], _∷_, _++_}
 use native.Mathlib.Omega.{arith}
-use lib.ListN.{length, getD, length-append}
+use lib.ListN.{length, length-append}
 use lib.Dec.{eqb, leb}
 use borrow.Author.Tests.{leb-true, eqb-true}
 use Rattle.kinds.specs.KindBytes as kind
@@ -18,12 +18,12 @@ use Rattle.meaning.specs.Values.{bind}
 use Rattle.meaning.specs.Models.{modulo}
 use Rattle.meaning.specs.Steps.{Kind, kindNo, Cell, place, Ref, StepOp, Step, step}
 use Rattle.meaning.specs.Running as running
-use Rattle.meaning.specs.Running.{Store, writable, either, read, readAll, computes, apply, exec, run}
+use Rattle.meaning.specs.Running.{Store, writable, either, read, readAll, computes, exec, run}
 use Rattle.meaning.specs.Laws.Tests.{and-left, and-right}
 use Rattle.evaluator_cells.specs.Literals.{Reduced, NumbersOf}
 use Rattle.evaluator_cells.specs.Given.{Lent, given}
 use Rattle.evaluator_step.specs.Decoding.{countedIn, goodReference, goodReferences, goodRecord, kindFrom, opFrom, refFrom, refsFrom, stepFrom, stepsFrom}
-use Rattle.evaluator_cells.specs.Cells.{cellLimit, idLimit, keyNo, placeNo, writableNo}
+use Rattle.evaluator_cells.specs.Cells.{cellLimit, idLimit, placeNo, writableNo}
 use Rattle.evaluator_run.specs.Evaluation.{isAmong, adding, writing, writtenAfter}
 use Rattle.evaluator_cells.specs.Numbers.{Modulus}
 use Rattle.evaluator_cells.specs.Before.{beforeIn}

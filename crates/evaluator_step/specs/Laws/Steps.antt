@@ -26,8 +26,8 @@ use Rattle.meaning.specs.Steps.{StepOp}
 use Rattle.meaning.specs.Running as running
 use Rattle.meaning.specs.Running.{either, apply}
 use Rattle.evaluator_cells.specs.Given.{Lent, wordAt, rowAt, rowCount}
-use Rattle.evaluator_step.specs.Decoding.{opFrom, countedIn}
-use Rattle.evaluator_cells.specs.Cells.{cellLimit, idIn, placeNo, writableNo, indexOf, Chained, Adds}
+use Rattle.evaluator_step.specs.Decoding.{opFrom}
+use Rattle.evaluator_cells.specs.Cells.{cellLimit, idIn, placeNo, writableNo, indexOf, Adds}
 use Rattle.evaluator_cells.specs.Numbers.{Modulus, binaryNo}
 use Rattle.evaluator_cells.specs.Literals.{Reduced}
 use Rattle.evaluator_cells.specs.Before.{known, beforeIn}

@@ -1,6 +1,5 @@
 -- `evaluator_cells::numbers::number_at` meets its contract.
 -- Assumes nothing.
-use native.Mathlib.Omega.{arith}
 use Rattle.evaluator_cells.specs.Laws.Literals.{past-none}
 use borrow.Author.Needs.{needs}
 use Rattle.evaluator_cells.proofs.numbers.number_at.Statement.{statement}

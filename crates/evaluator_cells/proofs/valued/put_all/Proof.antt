@@ -5,7 +5,7 @@ use Prim.Native.Nat.{_≤_, _-_}
 use mathlib.Core.Path.{_≡_, _∙_, refl}
 use native.Mathlib.Omega.{arith}
 use lib.ListN.{length}
-use Rattle.kinds.specs.Write.{write, write-length}
+use Rattle.kinds.specs.Write.{write}
 use Rattle.evaluator_cells.specs.Keyed.{keyedTo}
 use Rattle.evaluator_cells.specs.Laws.Valued.{keyed-begin, keyed-more, keyed-end}
 use Rattle.evaluator_cells.proofs.valued.put_all.Statement.{statement}

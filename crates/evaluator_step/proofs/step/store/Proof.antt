@@ -2,7 +2,6 @@
 -- Assumes nothing.
 use native.Mathlib.Omega.{arith}
 use mathlib.Core.Path.{sym, _∙_}
-use Rattle.evaluator_step.specs.Machine.{table}
 use Rattle.evaluator_cells.specs.Laws.Index.{index-there}
 use Rattle.evaluator_step.specs.Laws.Steps.{stored-old, stored-new, stored-over}
 use borrow.Author.Needs.{needs}
