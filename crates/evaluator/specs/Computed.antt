@@ -1,75 +1,149 @@
--- WHAT THE EVALUATOR ANSWERS OF A GENERATED LIST: on the first list of accepted requests, where every leaf's value is given, it answers for each requested
--- cell the expression's value modulo m. Assumes nothing.
+-- WHAT THE EVALUATOR ANSWERS OF A GENERATED LIST: where the whole run of some frames is accepted with its first list, and every leaf's value is given, the
+-- evaluator, called with those frames and the bytes of that list, answers for each requested cell the expression's value modulo m. Assumes nothing.
 use Prim.Native.Nat.{ℕ, _*_, _<_, _≤_}
-use mathlib.Core.Path.{_≡_, refl, sym, _∙_, subst}
-use mathlib.Core.Option.{Option, none, some, Option·none-ne-some}
+use mathlib.Core.Path.{_≡_, refl, sym, _∙_, ap, subst}
+use mathlib.Core.Bool.{true}
+use mathlib.Core.Option.{some, Option·none-ne-some}
 use mathlib.Core.List.{List, []}
 use native.Mathlib.Omega.{arith}
 use lib.ListN.{length}
-use Rattle.meaning.specs.Refusals.{Answer, done}
-use Rattle.meaning.specs.Trees.{Forest, Acyclic, Each, Member}
+use borrow.Author.Tests.{le-leb}
+use Rattle.kinds.specs.Write.{write}
+use Rattle.meaning.specs.Refusals.{Answer, done, refused, answerNo, _then_}
+use Rattle.meaning.specs.Trees.{Acyclic, Each, Member}
 use Rattle.meaning.specs.Values.{value}
 use Rattle.meaning.specs.Models.{modulo}
-use Rattle.meaning.specs.Steps.{Cell, Step, expCell}
+use Rattle.meaning.specs.Steps.{expCell}
 use Rattle.meaning.specs.Running.{empty}
 use Rattle.meaning.specs.Generation.{Request, start, serveAll}
-use Rattle.meaning.specs.Building.{Segment, segment, whole}
+use Rattle.meaning.specs.Building.{Segment, whole}
 use Rattle.meaning.specs.Demand3.{NoResult, Throughout, Fed, Computes, ValueFor, HeldFor}
 use Rattle.meaning.specs.Proved.{demand3-fed}
-use Rattle.meaning.specs.Laws.Tests.{then-done, done-same, each-both, each-map}
+use Rattle.meaning.specs.Laws.Tests.{then-done, done-same, number-not-zero, each-both}
+use Rattle.frames.specs.Order.{Input, nothing, nodeLimit, countsOf}
+use Rattle.frames.specs.Reading.{framesIn, readFrom, reading}
+use Rattle.frames.specs.Exactly.{read-as}
+use Rattle.frames.specs.Limits.{within-all}
+use Rattle.frames.specs.Ranges.{ranged-all}
+use Rattle.pool.specs.Pool.{Pool}
 use Rattle.pool.specs.Trees.{forest}
+use Rattle.pool.specs.Shaped.{Shaped}
+use Rattle.pool.specs.Verdict.{Verdict}
+use Rattle.pool.specs.Exactly as pool
+use Rattle.pool.specs.Exactly.{one-answer}
+use Rattle.pool.specs.Numbered.{poolOf}
 use Rattle.starkinfo_codegen.specs.Encoding.{encoded}
-use Rattle.pool.specs.Laws.Tabled.{node-count}
-use Rattle.starkinfo_codegen.specs.Emitting.{Rest, tablesOf, poolOf, Pooled}
+use Rattle.requests.specs.Runs.{requestsOf, BytesRun}
+use Rattle.requests.specs.Serving.{plain-requests, accepted}
+use Rattle.requests.specs.Exactly.{rows-low}
+use Rattle.output.specs.Shown.{StepSays}
 use Rattle.output.specs.Whole.{whole-says}
-use Rattle.evaluator.specs.Given.{Lent, given}
-use Rattle.evaluator.specs.Evaluation.{cellLimit, written, Valued, valuedBy, valuedSize, evaluation}
+use Rattle.evaluator_cells.specs.Keyed.{valuedSize}
+use Rattle.evaluator_cells.specs.Given.{lent, given, goodValues}
+use Rattle.evaluator_cells.specs.Literals.{broughtAt}
+use Rattle.evaluator_step.specs.Decoding.{goodList}
+use Rattle.evaluator_run.specs.Evaluation.{written, Valued, valuedBy, valuesBytes, wellFormed, ruling, outAfter}
+use Rattle.evaluator.specs.Answer.{answerSays, EvaluationIs}
 use Rattle.evaluator.specs.Exactly.{fits}
+use Rattle.evaluator.specs.declared.evaluate.Evaluation.{Evaluation}
 use Rattle.evaluator.specs.Laws.ReadBack.{list-back, list-good}
 use Rattle.evaluator.specs.Laws.Rows.{first-in, first-few}
 use Rattle.evaluator.specs.Laws.Written.{run-covers, valued-member, written-few}
 
 -- ── the statement ────────────────────────────────────────────────────────────
-module _ (w : List ℕ) (b : Rest) (g : Lent) (m : ℕ) where
-  -- the cell of a request stands in the answer, with the value of its expression at its row
-  abbrev pub AnsweredFor : List Valued → Request → Type 0
-  AnsweredFor vs q =
-      (v : ℕ) × (value (modulo m) (given m g) (forest (poolOf w b)) (q .expression) (q .row) ≡ some v)
-      × Member {A = Valued} (record { cell = expCell (q .expression) (q .row); value = v }) vs
+-- the cell of a request stands among the values answered, with the value of its expression at its row
+abbrev pub AnsweredFor : Pool → ℕ → List ℕ → List Valued → Request → Type 0
+AnsweredFor p m ws vs q =
+    (v : ℕ) × (value (modulo m) (given m (lent ws)) (forest p) (q .expression) (q .row) ≡ some v)
+    × Member {A = Valued} (record { cell = expCell (q .expression) (q .row); value = v }) vs
 
-  -- with so many bytes of room
-  pub record Evaluates (xs : List Step) (qs : List Request) (room : ℕ) : Type 0 where
-    pub values : List Valued
-    pub answer : evaluation w (b .literals) g m (encoded xs) room ≡ done values
-    pub each : Each (AnsweredFor values) qs
+-- r is the answer with these values, which stand at the front of the room, and they have each requested cell's
+pub record AnswersAll (i : Input) (m : ℕ) (ws out out′ : List ℕ) (r : Evaluation) : Type 0 where
+  pub values : List Valued
+  pub says : answerSays r ≡ done (length values)
+  pub bytes : out′ ≡ write out 0 (valuesBytes values)
+  pub each : Each (AnsweredFor (poolOf i) m ws values) (requestsOf i)
 
-  -- ── the proof ──────────────────────────────────────────────────────────────
-  module _ (pooled : Pooled w b) (modulus : 2 ≤ m) (acyclic : Acyclic (forest (poolOf w b))) (fed : Throughout (Fed 2 (given m g)) (forest (poolOf w b))) where
-    -- OF ACCEPTED REQUESTS, plain or primed, none of which asks for a result
-    pub first-evaluates :
-        (qs : List Request) (s : Segment) → Each NoResult qs → Each (λ q. q .row < 2) qs → whole 2 (forest (poolOf w b)) qs ≡ done s
-        → (room : ℕ) → valuedSize * length (s .first) ≤ room → Evaluates (s .first) qs room
-    first-evaluates qs s plain inRows e room fit =
-        let rows = first-in (forest (poolOf w b)) qs s plain inRows e in
-        let y = then-done (serveAll 2 (forest (poolOf w b)) qs start) _ e in
-        let c = subst (λ (z : Segment). Computes (modulo m) (given m g) (forest (poolOf w b)) (z .first) qs) (done-same _ _ (y .2))
-        (demand3-fed (modulo m) 2 (given m g) (forest (poolOf w b)) acyclic fed qs plain (y .0) (y .1)) in
-        let says = whole-says (poolOf w b) (pooled .shaped) 2 qs s e in
-        let n = written-few (s .first) [] in
-        let l = first-few (poolOf w b) (pooled .shaped) (rw (node-count (tablesOf w b)) (pooled .few)) acyclic qs s plain inRows e in
-        let a
-        = fits w (b .literals) g m (encoded (s .first)) room (s .first) (c .end) (modulus, list-good w b (pooled .few) (s .first) says rows)
-        (record { steps = list-back w b (pooled .few) (s .first) says; runs = c .runs }) (omega arith, omega arith) in
-        record {
-          values = valuedBy (c .end) (written (s .first));
-          answer = a;
-          each = each-both (HeldFor (modulo m) (given m g) (forest (poolOf w b)) (c .end)) (ValueFor (modulo m) (given m g) (forest (poolOf w b)) (c .end)) _
-              (λ q h v. (
-                h .0,
-                sym v ∙ h .1,
-                valued-member (c .end) (written (s .first)) (expCell (q .expression) (q .row)) (h .0)
-                    (run-covers (modulo m) (given m g) (s .first) empty (c .end) [] (λ d u z. absurd (Option·none-ne-some u z)) (c .runs) (expCell (q .expression) (q .row)) (h .0) (h .1))
-                    (h .1),
-              ))
-              qs (c .held) (c .values);
-        }
+-- ── the proof ────────────────────────────────────────────────────────────────
+-- of a pool and accepted requests, plain or primed, none of which asks for a result
+module _ (p : Pool) (shaped : Shaped p) (few : length (p .nodes) ≤ nodeLimit) (acyclic : Acyclic (forest p)) (qs : List Request) (g : Segment) (plain : Each NoResult qs) (inRows : Each (λ q. q .row < 2) qs) (e : whole 2 (forest p) qs ≡ done g) where
+  says : Each (StepSays p) (g .first)
+  says = whole-says p shaped 2 qs g e
+
+  well-formed : goodList (encoded (g .first)) ≡ true
+  well-formed = list-good p (g .first) says (first-in (forest p) qs g plain inRows e)
+
+  module _ (m : ℕ) (ws : List ℕ) (fed : Throughout (Fed 2 (given m (lent ws))) (forest p)) where
+    computes : Computes (modulo m) (given m (lent ws)) (forest p) (g .first) qs
+    computes =
+        let y = then-done (serveAll 2 (forest p) qs start) _ e in
+        subst (λ (z : Segment). Computes (modulo m) (given m (lent ws)) (forest p) (z .first) qs) (done-same _ _ (y .2))
+        (demand3-fed (modulo m) 2 (given m (lent ws)) (forest p) acyclic fed qs plain (y .0) (y .1))
+
+    abbrev answered : List Valued
+    answered = valuedBy (computes .end) (written (g .first))
+
+    ruling-is : (room : ℕ) → valuedSize * length (g .first) ≤ room → ruling (broughtAt p) (lent ws) m (encoded (g .first)) room ≡ done answered
+    ruling-is room fit =
+        let n = written-few (g .first) [] in
+        let l = first-few p shaped few acyclic qs g plain inRows e in
+        fits (broughtAt p) (lent ws) m (encoded (g .first)) room (g .first) (computes .end)
+        (record { steps = list-back p (g .first) says; runs = computes .runs }) (omega arith, omega arith)
+
+    all-answered : Each (AnsweredFor p m ws answered) qs
+    all-answered =
+        let c = computes in
+        each-both (HeldFor (modulo m) (given m (lent ws)) (forest p) (c .end)) (ValueFor (modulo m) (given m (lent ws)) (forest p) (c .end)) _
+        (λ q h v. (
+          h .0,
+          sym v ∙ h .1,
+          valued-member (c .end) (written (g .first)) (expCell (q .expression) (q .row)) (h .0)
+              (run-covers (modulo m) (given m (lent ws)) (g .first) empty (c .end) [] (λ d u z. absurd (Option·none-ne-some u z)) (c .runs) (expCell (q .expression) (q .row)) (h .0) (h .1))
+              (h .1),
+        ))
+        qs (c .held) (c .values)
+
+formed : (ws : List ℕ) (m : ℕ) (list : List ℕ) → 2 ≤ m → goodList list ≡ true → goodValues ws ≡ true → wellFormed ws m list ≡ true
+unfolding wellFormed
+formed ws m list a b c = rw (le-leb 2 m a, b, c)
+
+-- FROM FRAMES: b their bytes, g the segment of their whole run
+module _ (b : List ℕ) (listRoom : ℕ) (g : Segment) (run : BytesRun b listRoom (done g)) (i : Input) (read : reading b ≡ done i) where
+  from : readFrom nothing (framesIn b) ≡ done i
+  from = sym (read-as b) ∙ read
+
+  few-nodes : length (i .nodes) ≤ nodeLimit
+  unfolding countsOf
+  few-nodes = within-all (framesIn b) i from .nodes
+
+  pub first-evaluates :
+      (m : ℕ) → 2 ≤ m → (ws : List ℕ) → goodValues ws ≡ true → Throughout (Fed 2 (given m (lent ws))) (forest (poolOf i))
+      → (out : List ℕ) → valuedSize * length (g .first) ≤ length out
+      → {out′ : List ℕ} {r : Evaluation} → EvaluationIs b (encoded (g .first)) m ws out out′ r → AnswersAll i m ws out out′ r
+  first-evaluates m least ws good fed out fit {out′} {r} h =
+      let p = poolOf i in
+      let qs = requestsOf i in
+      let a = accepted p qs listRoom g (run .judged i read) in
+      let few : length (p .nodes) ≤ nodeLimit = few-nodes in
+      let plain = plain-requests (i .requests) in
+      let rows = rows-low (i .requests) (ranged-all (framesIn b) i from .requests) in
+      let list = encoded (g .first) in
+      let w = well-formed p (a .shaped) few (a .acyclic) qs g plain rows (a .run) in
+      let vs = answered p (a .shaped) few (a .acyclic) qs g plain rows (a .run) m ws fed in
+      let j = h .1 .judged i read (formed ws m list least w good) in
+      let v = one-answer p [] (j .0) (done tt) (j .1) (admitted p (a .shaped) (a .acyclic) (j .0) (j .1)) in
+      let z : h .0 ≡ done vs = j .2 ∙ ap (λ (x : Answer (Unit {0})). x then λ _. ruling (broughtAt p) (lent ws) m list (length out)) v
+      ∙ ruling-is p (a .shaped) few (a .acyclic) qs g plain rows (a .run) m ws fed (length out) fit in
+      record {
+        values = vs;
+        says = h .2 .says ∙ ap (λ (x : Answer (List Valued)). x then λ us. done (length us)) z;
+        bytes = h .2 .bytes ∙ ap (outAfter out) z;
+        each = all-answered p (a .shaped) few (a .acyclic) qs g plain rows (a .run) m ws fed;
+      }
+    where
+      admitted : (p : Pool) → Shaped p → Acyclic (forest p) → (v : Answer (Unit {0})) → Verdict p [] v → Verdict p [] (done tt)
+      admitted p s c v w = subst (Verdict p []) (zero v (pool.exactly-0 p v w .1 (s, c))) w
+        where
+          zero : (v : Answer (Unit {0})) → answerNo v ≡ 0 → v ≡ done tt
+          zero (done u) e = refl
+          zero (refused k o) e = absurd (number-not-zero k e)

@@ -1,87 +1,116 @@
-// The evaluator's entry point, over the tables of a pool.
-use crate::cells::CELL_LIMIT;
-use crate::cells::ID_LIMIT;
-use crate::presence::has_rules;
-use crate::records::good_list;
-use crate::run::run_list;
-use crate::step::Ran;
-use crate::valued::VALUED_SIZE;
-use crate::valued::put_all;
+// The evaluator's entry point: a pool as frames, a list, a modulus and the given values. The caller vouches for nothing, and on a refusal nothing lent has
+// changed.
+use evaluator_cells::numbers::fill_numbers;
+use evaluator_run::compute::Computed;
+use evaluator_run::compute::compute;
+use evaluator_run::records::is_well_formed;
+use frames::count::Blame;
+use frames::count::Counts;
+use frames::count::EXPRESSION_LIMIT;
 use frames::count::NODE_LIMIT;
+use frames::count::REQUEST_LIMIT;
+use frames::count::Reading;
+use frames::read::fill;
 use frames::tables::NODE_WORDS;
-ghost use mathlib.Core.Path.{_≡_};
-ghost use Rattle.evaluator.specs.Given.{lent};
-ghost use Rattle.evaluator.specs.Answer.{EvaluationIs};
+use pool::admit::Verdict;
+use pool::admit::admit;
+ghost use Rattle.evaluator.specs.Answer.{PoolAsks, PoolEvaluated, ReadAsks, ReadEvaluated, EvaluationIs};
 
-// How many cells are written, or the refusal: 1, 10 or 9.
+// How many cells are written, or the refusal.
 pub enum Evaluation {
-    Malformed,
+    Malformed(Blame),
+    Limit(Blame),
+    IllFormed,
+    ChildCount(usize),
+    NotThere(usize),
+    Lost,
+    Cycle(usize),
     NoRule,
     Full,
     Cells(usize),
 }
 
-const LEAST_MODULUS: u32 = 2;
-
-// Runs the records of `list` downwards modulo `modulus`, with the literals of the pool in `nodes` and `literals` and the values given, and puts the final
-// value of every cell written at the front of `out`. On a refusal `out` has not changed.
-pub fn evaluate(
-    list: &[u8],
+// An admitted pool of `count` nodes, a list and values that are well formed.
+fn evaluate_pool(
     nodes: &[u64; NODE_WORDS],
     literals: &[u64; NODE_LIMIT],
-    cm: &[u64],
-    constants: &[u64],
-    q: &[u64],
-    publics: &[u64],
-    challenges: &[u64],
-    evals: &[u64],
-    xs: &[u64],
-    modulus: u32,
+    count: usize,
+    list: &[u8],
+    m: u64,
+    values: &[u64],
     out: &mut [u8],
 ) -> Evaluation
-    ensures { λ r. ⌜ EvaluationIs (now (nodes .entry)) (now (literals .entry)) (lent (now (cm .entry)) (now (constants .entry)) (now (q .entry)) (now (publics .entry)) (now (challenges .entry)) (now (evals .entry)) (now (xs .entry))) modulus (now (list .entry)) (now (out .entry)) (now (out .exit)) r ⌝ }
+    requires { ⌜ PoolAsks count (now list) m (now values) ⌝ }
+    ensures { λ r. ⌜ PoolEvaluated (now (nodes .entry)) (now (literals .entry)) count (now (list .entry)) m (now (values .entry)) (now (out .entry)) (now (out .exit)) r ⌝ }
 {
-    if modulus < LEAST_MODULUS {
-        return Evaluation::Malformed;
+    let mut numbers = [0u64; NODE_LIMIT];
+    fill_numbers(nodes, literals, count, m, &mut numbers);
+    match compute(list, &numbers, values, m, out) {
+        Computed::NoRule => Evaluation::NoRule,
+        Computed::Full => Evaluation::Full,
+        Computed::Cells(n) => Evaluation::Cells(n),
     }
-    if !good_list(list) {
-        return Evaluation::Malformed;
+}
+
+// What was read: the list, the modulus and the values are looked at before the pool.
+fn evaluate_read(
+    nodes: &[u64; NODE_WORDS],
+    literals: &[u64; NODE_LIMIT],
+    expressions: &[u64; EXPRESSION_LIMIT],
+    c: Counts,
+    list: &[u8],
+    modulus: u32,
+    values: &[u64],
+    out: &mut [u8],
+) -> Evaluation
+    requires { ⌜ ReadAsks c ⌝ }
+    ensures { λ r. ⌜ ReadEvaluated (now (nodes .entry)) (now (literals .entry)) (now (expressions .entry)) c (now (list .entry)) modulus (now (values .entry)) (now (out .entry)) (now (out .exit)) r ⌝ }
+{
+    if !is_well_formed(list, modulus, values) {
+        return Evaluation::IllFormed;
     }
+    let no_table = [0u64; 0];
+    let admission = admit(nodes, expressions, &no_table, c.nodes, c.expressions);
+    let verdict = admission.verdict;
     let m = modulus as u64;
-    let mut heads = [0u16; ID_LIMIT];
-    let mut nexts = [0u16; CELL_LIMIT];
-    let mut keys = [0u32; CELL_LIMIT];
-    let mut values = [0u64; CELL_LIMIT];
-    match run_list(
-        &mut heads,
-        &mut nexts,
-        &mut keys,
-        &mut values,
-        list,
-        nodes,
-        literals,
-        cm,
-        constants,
-        q,
-        publics,
-        challenges,
-        evals,
-        xs,
-        m,
+    match verdict {
+        Verdict::ChildCount(i) => Evaluation::ChildCount(i),
+        Verdict::NotThere(i) => Evaluation::NotThere(i),
+        Verdict::LostRoot => Evaluation::Lost,
+        Verdict::Cycle(i) => Evaluation::Cycle(i),
+        Verdict::Admitted => evaluate_pool(nodes, literals, c.nodes, list, m, values, out),
+    }
+}
+
+// A pool as frames, each behind its length (2 bytes, the high one first); requests among them are read and not served. Runs the records of `list` downwards
+// modulo `modulus` and puts the final value of every cell written at the front of `out`.
+pub fn evaluate(s: &[u8], list: &[u8], modulus: u32, values: &[u64], out: &mut [u8]) -> Evaluation
+    ensures { λ r. ⌜ EvaluationIs (now (s .entry)) (now (list .entry)) modulus (now (values .entry)) (now (out .entry)) (now (out .exit)) r ⌝ }
+{
+    let mut nodes = [0u64; NODE_WORDS];
+    let mut literals = [0u64; NODE_LIMIT];
+    let mut expressions = [0u64; EXPRESSION_LIMIT];
+    let mut requests = [0u64; REQUEST_LIMIT];
+    match fill(
+        s,
+        &mut nodes,
+        &mut literals,
+        &mut expressions,
+        &mut requests,
     ) {
-        Ran::NoRule => Evaluation::NoRule,
-        Ran::Over => {
-            if has_rules(list, cm, constants, q, publics, challenges, evals, xs, m) {
-                return Evaluation::Full;
-            }
-            Evaluation::NoRule
-        }
-        Ran::Cells(n) => {
-            if out.len() < VALUED_SIZE * n {
-                return Evaluation::Full;
-            }
-            put_all(&keys, &values, n, out);
-            Evaluation::Cells(n)
+        Reading::Malformed(b) => Evaluation::Malformed(b),
+        Reading::Full(b) => Evaluation::Limit(b),
+        Reading::Read(c) => {
+            evaluate_read(
+                &nodes,
+                &literals,
+                &expressions,
+                c,
+                list,
+                modulus,
+                values,
+                out,
+            )
         }
     }
 }

@@ -16,7 +16,10 @@ use Rattle.codegen.specs.Building.{Lists, Sizes, sizes, builtSays, BuildGiven}
 use Rattle.codegen.specs.declared.asked.Wanted.{Wanted}
 use Rattle.codegen.specs.declared.commit.Served.{Served}
 use Rattle.codegen.specs.declared.build.Built.{Built}
-use Rattle.host.specs.Numbered.{FreshNumbered, ServeNumbered, BuildNumbered, sizesTold}
+use Rattle.evaluator.specs.Answer.{answerSays, EvaluationIs}
+use Rattle.evaluator.specs.Exactly.{number-is}
+use Rattle.evaluator.specs.declared.evaluate.Evaluation.{Evaluation}
+use Rattle.host.specs.Numbered.{FreshNumbered, ServeNumbered, BuildNumbered, EvaluateNumbered, sizesTold, cellsTold}
 
 -- ── a fresh context ──────────────────────────────────────────────────────────
 pub fresh-numbered : (x x′ : List ℕ) (b t : Bool) → Freshened x x′ b → b ≡ t → FreshNumbered x x′ (cond t 0 (number Refusal.malformed))
@@ -38,3 +41,9 @@ same-then (refused k i) f = refl
 pub build-numbered :
     (s x x′ l : List ℕ) (o o′ : Lists) (z z′ : List ℕ) (r : Built) (n : ℕ) → BuildGiven s x x′ l o o′ r → n ≡ answerNo (builtSays r) → z′ ≡ sizesTold (builtSays r) z → BuildNumbered s x x′ l o o′ z z′ n
 build-numbered s x x′ l o o′ z z′ r n g e h = (g .0, g .1, e ∙ ap answerNo (g .2 .says) ∙ same-then (g .0) sizes, g .2 .stands, h ∙ ap (λ t. sizesTold t z) (g .2 .says))
+
+-- ── evaluations ──────────────────────────────────────────────────────────────
+pub evaluate-numbered :
+    (s list : List ℕ) (m : ℕ) (ws o o′ z z′ : List ℕ) (r : Evaluation) (n : ℕ) → EvaluationIs s list m ws o o′ r → n ≡ answerNo (answerSays r) → z′ ≡ cellsTold (answerSays r) z
+    → EvaluateNumbered s list m ws o o′ z z′ n
+evaluate-numbered s list m ws o o′ z z′ r n g e h = (g .0, g .1, e ∙ number-is (g .2), g .2 .bytes, h ∙ ap (λ t. cellsTold t z) (g .2 .says))

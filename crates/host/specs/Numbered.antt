@@ -1,4 +1,4 @@
--- THE EXPORTED FUNCTIONS: the answer to a call is the one that `codegen` defines, told as its number.
+-- THE EXPORTED FUNCTIONS: the answer to a call is the one that `codegen` or `evaluator` defines, told as its number.
 -- Assumes nothing: these are definitions.
 use Prim.Native.Nat.{ℕ}
 use mathlib.Core.Path.{_≡_}
@@ -16,6 +16,8 @@ use Rattle.codegen.specs.Written.{Stands}
 use Rattle.codegen.specs.Serving.{Serves}
 use Rattle.codegen.specs.Building.{Lists, Builds, StandsBuilt, Sizes, sizes, forestRead}
 use Rattle.codegen.specs.declared.asked.Wanted.{Wanted}
+use Rattle.evaluator_run.specs.Evaluation.{Valued, outAfter}
+use Rattle.evaluator.specs.Answer.{Evaluates}
 
 -- a fresh context, or the refusal of a size that is not a context's
 pub record FreshNumbered (x x′ : List ℕ) (n : ℕ) : Type 0 where
@@ -39,3 +41,14 @@ abbrev pub BuildNumbered : List ℕ → List ℕ → List ℕ → List ℕ → L
 BuildNumbered s x x′ l o o′ z z′ n =
     (a : Answer RawSegment) × Builds (reading s) x l o a × (n ≡ answerNo a) × StandsBuilt (forestRead (reading s)) a x l o x′ o′ ×
     (z′ ≡ sizesTold (a then λ g. done (sizes g)) z)
+
+-- the number of cells written where the evaluation was done
+abbrev pub cellsTold : Answer ℕ → List ℕ → List ℕ
+cellsTold (done n) o = set o 0 n
+cellsTold (refused k i) o = o
+
+-- an evaluation of a list modulo m from the words ws into the bytes o, whose cells are counted in z
+abbrev pub EvaluateNumbered : List ℕ → List ℕ → ℕ → List ℕ → List ℕ → List ℕ → List ℕ → List ℕ → ℕ → Type 0
+EvaluateNumbered s list m ws o o′ z z′ n =
+    (a : Answer (List Valued)) × Evaluates list m ws (length o) (reading s) a × (n ≡ answerNo a) × (o′ ≡ outAfter o a) ×
+    (z′ ≡ cellsTold (a then λ vs. done (length vs)) z)

@@ -1,4 +1,4 @@
-// Generation for a program in another language: each function takes numbers and lent bytes, asks nothing of them, and answers with a number: 0 where it
+// Generation and the evaluator for a program in another language: each function takes numbers and lent bytes, asks nothing of them, and answers with a number: 0 where it
 // was done, else the refusal's, and then nothing lent has changed.
 use codegen::asked::Wanted;
 use codegen::build::Built;
@@ -6,6 +6,8 @@ use codegen::build::build_code;
 use codegen::commit::Served;
 use codegen::serve::serve;
 use context::store::fresh;
+use evaluator::evaluate::Evaluation;
+use evaluator::evaluate::evaluate;
 use kinds::refusal::CHILD_COUNT;
 use kinds::refusal::CYCLE;
 use kinds::refusal::DOUBLE_PRIME;
@@ -19,7 +21,11 @@ ghost use mathlib.Core.Path.{_≡_};
 ghost use Rattle.meaning.specs.Refusals.{answerNo};
 ghost use Rattle.codegen.specs.Committing.{servedSays};
 ghost use Rattle.codegen.specs.Building.{builtSays, lists};
-ghost use Rattle.host.specs.Numbered.{FreshNumbered, ServeNumbered, BuildNumbered, sizesTold, wanted};
+ghost use Rattle.evaluator.specs.Answer.{answerSays};
+ghost use Rattle.host.specs.Numbered.{FreshNumbered, ServeNumbered, BuildNumbered, EvaluateNumbered, sizesTold, cellsTold, wanted};
+
+// The evaluator's own refusal.
+const NO_RULE: u8 = 10;
 
 fn served_number(r: Served) -> u8
     ensures { λ n. ⌜ n ≡ answerNo (servedSays r) ⌝ }
@@ -82,6 +88,41 @@ fn tell_sizes(r: Built, sizes: &mut [usize; 3])
     }
 }
 
+fn evaluated_number(r: Evaluation) -> u8
+    ensures { λ n. ⌜ n ≡ answerNo (answerSays r) ⌝ }
+{
+    match r {
+        Evaluation::Malformed(_) => MALFORMED,
+        Evaluation::Limit(_) => FULL,
+        Evaluation::IllFormed => MALFORMED,
+        Evaluation::ChildCount(_) => CHILD_COUNT,
+        Evaluation::NotThere(_) => NOT_THERE,
+        Evaluation::Lost => NOT_THERE,
+        Evaluation::Cycle(_) => CYCLE,
+        Evaluation::NoRule => NO_RULE,
+        Evaluation::Full => FULL,
+        Evaluation::Cells(_) => NONE,
+    }
+}
+
+// Where an evaluation was done: how many cells are written.
+fn tell_cells(r: Evaluation, cells: &mut [usize; 1])
+    ensures { λ _. ⌜ now (cells .exit) ≡ cellsTold (answerSays r) (now (cells .entry)) ⌝ }
+{
+    match r {
+        Evaluation::Cells(n) => cells[0] = n,
+        Evaluation::Malformed(_) => {}
+        Evaluation::Limit(_) => {}
+        Evaluation::IllFormed => {}
+        Evaluation::ChildCount(_) => {}
+        Evaluation::NotThere(_) => {}
+        Evaluation::Lost => {}
+        Evaluation::Cycle(_) => {}
+        Evaluation::NoRule => {}
+        Evaluation::Full => {}
+    }
+}
+
 // Makes a context fresh. Where its size is not a context's it is a malformed record.
 #[no_mangle]
 pub extern "C" fn enonkasse_fresh(context: &mut [u8]) -> u8
@@ -124,4 +165,22 @@ pub extern "C" fn enonkasse_build(
     let r = build_code(frames, context, list, first, i, last);
     tell_sizes(r, sizes);
     built_number(r)
+}
+
+// Runs a list downwards modulo a number over the pool of the frames, from the values given; puts the final value of every cell written at the front of `out`
+// (12 bytes each: kind, prime, id, value), and says how many there are.
+#[no_mangle]
+pub extern "C" fn enonkasse_evaluate(
+    frames: &[u8],
+    list: &[u8],
+    modulus: u32,
+    values: &[u64],
+    out: &mut [u8],
+    cells: &mut [usize; 1],
+) -> u8
+    ensures { λ r. ⌜ EvaluateNumbered (now (frames .entry)) (now (list .entry)) modulus (now (values .entry)) (now (out .entry)) (now (out .exit)) (now (cells .entry)) (now (cells .exit)) r ⌝ }
+{
+    let r = evaluate(frames, list, modulus, values, out);
+    tell_cells(r, cells);
+    evaluated_number(r)
 }

@@ -102,7 +102,7 @@ fn put_literal(out: &mut [u8; LINE_SIZE], at: usize, l: Literal)
 }
 
 // What the node of a number reference brings: neg brings 0.
-fn literal_of(nodes: &[u64; NODE_WORDS], literals: &[u64; NODE_LIMIT], n: usize) -> Literal
+pub fn literal_of(nodes: &[u64; NODE_WORDS], literals: &[u64; NODE_LIMIT], n: usize) -> Literal
     ensures { λ r. ⌜ litOf r ≡ literalIn (now (nodes .entry)) (now (literals .entry)) n ⌝ }
 {
     if NODE_LIMIT <= n {

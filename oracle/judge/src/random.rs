@@ -8,6 +8,7 @@ use crate::pool::{self, Expression, Flags, Node, Pool, MAX_EXPRESSIONS, MAX_NODE
 use crate::script::{Command, Script, MAX_REQUESTS};
 
 /// SplitMix64.
+#[derive(Clone, Debug)]
 pub struct Random(u64);
 
 impl Random {

@@ -33,6 +33,19 @@ extern "C" {
         last_size: usize,
         sizes: *mut [usize; 3],
     ) -> u8;
+
+    fn enonkasse_evaluate(
+        frames: *const u8,
+        frames_size: usize,
+        list: *const u8,
+        list_size: usize,
+        modulus: u32,
+        values: *const u64,
+        values_size: usize,
+        out: *mut u8,
+        out_size: usize,
+        cells: *mut [usize; 1],
+    ) -> u8;
 }
 
 pub fn fresh(context: &mut [u8]) -> u8 {
@@ -80,6 +93,31 @@ pub fn build(
             last.as_mut_ptr(),
             last.len(),
             sizes,
+        )
+    }
+}
+
+pub fn evaluate(
+    frames: &[u8],
+    list: &[u8],
+    modulus: u32,
+    values: &[u64],
+    out: &mut [u8],
+    cells: &mut [usize; 1],
+) -> u8 {
+    // Safety: as above.
+    unsafe {
+        enonkasse_evaluate(
+            frames.as_ptr(),
+            frames.len(),
+            list.as_ptr(),
+            list.len(),
+            modulus,
+            values.as_ptr(),
+            values.len(),
+            out.as_mut_ptr(),
+            out.len(),
+            cells,
         )
     }
 }

@@ -1,5 +1,8 @@
 //! The exported functions of the port and the original, on the same random sessions.
 
+#[cfg(test)]
+mod edges;
+mod evaluation;
 mod library;
 mod record;
 #[cfg(test)]
@@ -9,7 +12,7 @@ mod session;
 use judge::pool::MAX_NODES;
 use judge::random;
 use judge::run::on_large_stack;
-use judge::script::Script;
+use judge::script::{Command, Request, Script};
 use judge::shrink::shrink;
 use session::{compare, Fault, Setting, Tally};
 use std::env;
@@ -18,11 +21,16 @@ use std::sync::atomic::{AtomicU64, Ordering};
 use std::thread;
 
 const HELP: &str = "\
-sessions SEED COUNT    compares the exported functions with the original on COUNT random sessions
+sessions SEED COUNT             compares the exported functions with the original on COUNT random sessions
+sessions evaluate SEED COUNT    evaluates COUNT first lists and compares the cells with the trees
 
 A session is a pool with requests, some asking for results, and builds, from a fresh context. A
 refused call must leave all that was lent as it was; the original is put back to before it, and
 both go on. At the first difference it stops, and prints as small a script as it finds.
+
+A list that is evaluated is the first one of a session, asked for no result and up to its first
+build; it is compared with the original's too. Its cells are compared with the values of the
+expressions, computed here on the pool's trees, at random rows modulo each of six numbers.
 
 Exit status: 0; 1 if something differs; 2 if something could not be read or answered.
 ";
@@ -37,9 +45,13 @@ const HUNDREDS: usize = 300;
 
 fn main() -> ExitCode {
     let words: Vec<String> = env::args().skip(1).collect();
+    let (mode, words) = match words.split_first() {
+        Some((word, rest)) if word == "evaluate" => (Mode::Lists, rest),
+        _ => (Mode::Sessions, &words[..]),
+    };
     let numbers: Option<Vec<u64>> = words.iter().map(|word| word.parse().ok()).collect();
     match numbers.as_deref() {
-        Some(&[seed, count]) => run(seed, count).unwrap_or_else(|text| {
+        Some(&[seed, count]) => run(mode, seed, count).unwrap_or_else(|text| {
             eprintln!("sessions: {}", text);
             ExitCode::from(FAILED)
         }),
@@ -48,6 +60,43 @@ fn main() -> ExitCode {
             ExitCode::from(FAILED)
         }
     }
+}
+
+#[derive(Clone, Copy, PartialEq)]
+enum Mode {
+    Sessions,
+    Lists,
+}
+
+impl Mode {
+    fn script(self, seed: u64, index: u64) -> Script {
+        match self {
+            Mode::Sessions => script(seed, index),
+            Mode::Lists => plain(script(seed, index)),
+        }
+    }
+
+    fn setting(self, index: u64) -> Setting {
+        match self {
+            Mode::Sessions => Setting::of(index),
+            Mode::Lists => Setting::evaluating(index),
+        }
+    }
+}
+
+/// Up to its first build, and asking for no result.
+fn plain(script: Script) -> Script {
+    let without = |request: &Request| Request { asked: None, ..*request };
+    let mut commands: Vec<Command> = script
+        .commands
+        .iter()
+        .map_while(|command| match command {
+            Command::Request(request) => Some(Command::Request(without(request))),
+            Command::Build => None,
+        })
+        .collect();
+    commands.push(Command::Build);
+    Script { commands, ..script }
 }
 
 /// Of a thousand sessions one is as large as can be, of a hundred one has hundreds of nodes.
@@ -70,9 +119,9 @@ struct Part {
     found: Option<(u64, String)>,
 }
 
-fn run(seed: u64, count: u64) -> Result<ExitCode, String> {
+fn run(mode: Mode, seed: u64, count: u64) -> Result<ExitCode, String> {
     let (queue, end) = (AtomicU64::new(0), AtomicU64::new(count));
-    let work = || on_large_stack(|| compare_all(seed, &queue, &end));
+    let work = || on_large_stack(|| compare_all(mode, seed, &queue, &end));
     let parts: Vec<Result<Part, String>> = thread::scope(|scope| {
         let workers: Vec<_> = (0..WORKERS).map(|_| scope.spawn(work)).collect();
         workers.into_iter().map(|worker| worker.join().expect("a worker")).collect()
@@ -86,28 +135,29 @@ fn run(seed: u64, count: u64) -> Result<ExitCode, String> {
         all.tally.add(&part.tally);
         all.found = all.found.into_iter().chain(part.found).min();
     }
-    print(seed, &all);
+    print(mode, seed, &all);
     match all.found {
         None => Ok(ExitCode::SUCCESS),
         Some((index, text)) => {
             eprintln!("session {} of seed {} differs: {}", index, seed, text);
-            let (script, text) = smaller(script(seed, index), Setting::of(index), text)?;
-            eprint!("so does this one, asked as {:?}:\n{}", Setting::of(index), script);
+            let setting = mode.setting(index);
+            let (script, text) = smaller(mode.script(seed, index), setting, text)?;
+            eprint!("so does this one, asked as {:?}:\n{}", setting, script);
             eprintln!("{}", text);
             Ok(ExitCode::from(DIFFERENT))
         }
     }
 }
 
-fn compare_all(seed: u64, queue: &AtomicU64, end: &AtomicU64) -> Result<Part, String> {
+fn compare_all(mode: Mode, seed: u64, queue: &AtomicU64, end: &AtomicU64) -> Result<Part, String> {
     let mut part = Part::default();
     loop {
         let index = queue.fetch_add(1, Ordering::SeqCst);
         if index >= end.load(Ordering::SeqCst) {
             return Ok(part);
         }
-        let script = script(seed, index);
-        match compare(&script, Setting::of(index)) {
+        let script = mode.script(seed, index);
+        match compare(&script, mode.setting(index)) {
             Ok(tally) => {
                 part.sessions += 1;
                 part.nodes = part.nodes.max(script.pool.nodes().len());
@@ -138,7 +188,7 @@ fn smaller(found: Script, setting: Setting, text: String) -> Result<(Script, Str
     })
 }
 
-fn print(seed: u64, all: &Part) {
+fn print(mode: Mode, seed: u64, all: &Part) {
     let row = |name: &str, value: u64| println!("| {:<28} | {:>10} |", name, value);
     row("Seed", seed);
     println!("|---|---|");
@@ -155,4 +205,10 @@ fn print(seed: u64, all: &Part) {
     row("Steps compared", all.tally.steps);
     row("Of these muladd", all.tally.fused);
     row("Longest list", all.tally.longest as u64);
+    if mode == Mode::Lists {
+        row("Evaluations", all.tally.evaluated.evaluations);
+        row("Cells answered", all.tally.evaluated.cells);
+        row("Of these expressions", all.tally.evaluated.expressions);
+        row("Requested cells compared", all.tally.evaluated.requested);
+    }
 }

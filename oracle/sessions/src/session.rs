@@ -1,11 +1,13 @@
 //! A session: calls of the library and of the original, in turn, from a fresh context, and
 //! what stands after each compared.
 
+use crate::evaluation::{self, Evaluated};
 use crate::library;
 use crate::record::{encoded, said, STEP};
 use judge::answer::{Answer, StepBytes};
 use judge::kinds::Step;
 use judge::pool::Pool;
+use judge::random::Random;
 use judge::run::Original;
 use judge::script::{Command, Request, Script};
 use std::collections::BTreeMap;
@@ -27,6 +29,8 @@ pub struct Setting {
     /// Steps that the context's list has room for, and each list of a build.
     pub list: usize,
     pub built: usize,
+    /// The rows at which the first list of a build is evaluated, if it is.
+    pub rows: Option<u64>,
 }
 
 impl Setting {
@@ -37,7 +41,12 @@ impl Setting {
         let room = |places: [u64; 2]| if places.contains(&(index % 20)) { tight } else { ROOM };
         // Large sessions have the same place in each thousand.
         let grouped = (index + index / 1000) % 2 == 1;
-        Setting { grouped, list: room([7, 14]), built: room([3, 16]) }
+        Setting { grouped, list: room([7, 14]), built: room([3, 16]), rows: None }
+    }
+
+    /// Each request a call of its own, room enough, and the list evaluated.
+    pub fn evaluating(index: u64) -> Setting {
+        Setting { grouped: false, list: ROOM, built: ROOM, rows: Some(index) }
     }
 }
 
@@ -52,6 +61,7 @@ pub struct Tally {
     pub steps: u64,
     pub fused: u64,
     pub longest: usize,
+    pub evaluated: Evaluated,
 }
 
 /// Why a session ended early.
@@ -123,6 +133,8 @@ struct Session<'a> {
     ours: Lent,
     /// The same bytes as they stood before the call.
     before: Lent,
+    /// The requests served since the context was fresh.
+    served: Vec<Request>,
     tally: Tally,
 }
 
@@ -145,7 +157,8 @@ impl<'a> Session<'a> {
         pool.nodes().iter().for_each(|node| push_frame(&mut frames, node.frame()));
         pool.expressions().iter().for_each(|e| push_frame(&mut frames, e.frame()));
         let (before, original) = (ours.clone(), Original::new(pool));
-        Ok(Session { pool, frames, setting, original, ours, before, tally: Tally::default() })
+        let (served, tally) = (Vec::new(), Tally::default());
+        Ok(Session { pool, frames, setting, original, ours, before, served, tally })
     }
 
     fn serve(&mut self, requests: &[Request]) -> Result<(), Fault> {
@@ -181,6 +194,7 @@ impl<'a> Session<'a> {
         let end = STEP * steps.len();
         self.before.list[..end].copy_from_slice(&self.ours.list[..end]);
         self.before.context.copy_from_slice(&self.ours.context);
+        self.served.extend(requests);
         Ok(())
     }
 
@@ -221,6 +235,12 @@ impl<'a> Session<'a> {
             return differs("a build changed the context's list".to_string());
         }
         self.before.context.copy_from_slice(&self.ours.context);
+        if let Some(rows) = self.setting.rows {
+            let (first, mut random) = (&lists[0][..STEP * sizes[0]], Random::new(rows, 0));
+            let evaluated =
+                evaluation::compare(self.pool, &self.frames, first, &self.served, &mut random);
+            self.tally.evaluated.add(&evaluated.map_err(Fault::Differs)?);
+        }
         Ok(())
     }
 
@@ -300,5 +320,6 @@ impl Tally {
         self.steps += other.steps;
         self.fused += other.fused;
         self.longest = self.longest.max(other.longest);
+        self.evaluated.add(&other.evaluated);
     }
 }

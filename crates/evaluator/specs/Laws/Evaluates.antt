@@ -1,256 +1,161 @@
--- THE ANSWER, by the way that the code comes to it: each is what `evaluation` says.
+-- THE ANSWER, by the way that the code comes to it: each is what Answer.antt says.
 -- Assumes nothing.
-use Prim.Native.Nat.{ℕ, zero, suc, _+_, _*_, _/_, _%_, _<_, _≤_}
+use Prim.Native.Nat.{ℕ, _≤_}
 use mathlib.Core.Path.{_≡_, refl, sym, _∙_, ap, subst}
-use mathlib.Core.Bool.{Bool, true, false, cond, _&&_}
-use mathlib.Core.Option.{Option, none, some, Option·none-ne-some}
-use mathlib.Core.List.{List, [], _∷_, _++_, append-assoc, append-nil}
-use native.Mathlib.Nat.{div-add-mod', mod-eq-of-lt, mul-add-mod-self-right}
-use native.Mathlib.Omega.{arith}
-use lib.ListN.{length, getD, replicate, length-replicate}
-use lib.Dec.{leb, ltb, eqb}
-use borrow.Author.Tests.{le-leb, lt-leb}
-use Rattle.kinds.specs.Write.{write}
-use Rattle.kinds.specs.BigEndian.{u16At, u16Bytes}
-use Rattle.kinds.specs.References.{refAt}
-use Rattle.kinds.specs.Steps.{stepSize, stepAt, stepsOf, steps-none, steps-more}
-use Rattle.kinds.specs.declared.reference.Reference.{Reference}
-use Rattle.kinds.specs.declared.step.Step as bytes
-use Rattle.meaning.specs.Refusals.{Refusal, Answer, done, refused, _then_}
-use Rattle.meaning.specs.Trees.{nth, Each, upTo}
-use Rattle.meaning.specs.Values.{bind}
-use Rattle.meaning.specs.Models.{modulo}
-use Rattle.meaning.specs.Steps.{kindNo, Cell, Step}
-use Rattle.meaning.specs.Running.{Store, empty, run}
-use Rattle.meaning.specs.Laws.Tests.{and-left, and-right, each-join}
-use Rattle.output.specs.Output.{u64Bytes}
-use Rattle.evaluator.specs.Given.{Lent, given}
-use Rattle.evaluator.specs.Decoding.{recordCount, recordsIn, countedIn, goodRecord, goodRecords, goodList, stepsFrom}
-use Rattle.evaluator.specs.Evaluation.{cellLimit, writtenAfter, written, Valued, heldIn, valuedBy, valuedSize, valuedBytes, valuesBytes, computed, fitting, ruled, evaluation, outAfter}
-use Rattle.evaluator.specs.Cells.{idLimit, keyNo}
-use Rattle.evaluator.specs.Keyed.{keyedBytes, keyedTo, keyLimit, KeyedAllAsk}
-use Rattle.evaluator.specs.Machine.{Modulus, Table, table, Kept, Outcome, next, noRule, over, runTo}
-use Rattle.evaluator.specs.Presence.{isKnown, slotCount, marksTo}
-use Rattle.evaluator.specs.Answer.{answerSays, EvaluationIs}
-use Rattle.evaluator.specs.Laws.Keys.{Small, keyOf, key-small}
-use Rattle.evaluator.specs.Laws.Chains.{chained-none}
-use Rattle.evaluator.specs.Laws.Records.{good-append}
-use Rattle.evaluator.specs.Laws.Holding.{Held, held-none, nth-there}
-use Rattle.evaluator.specs.Laws.Simulation.{Narrow, NarrowStep, Fine, Simulated, simulated}
-use Rattle.evaluator.specs.Laws.Presence.{present-none, MarkedAll, marked-all}
+use mathlib.Core.Bool.{Bool, true, false, _&&_}
+use mathlib.Core.Option.{Option, none}
+use mathlib.Core.List.{List, []}
+use lib.ListN.{length, replicate}
+use lib.Dec.{leb}
+use borrow.Author.Tests.{leb-true}
+use Rattle.meaning.specs.Refusals.{Refusal, Answer, done, refused}
+use Rattle.meaning.specs.Laws.Tests.{and-left, and-right, done-same, done-not-refused, true-false}
+use Rattle.frames.specs.Order.{Input, blameAnswer, nodeLimit}
+use Rattle.frames.specs.Tables.{Tables, inputIn}
+use Rattle.frames.specs.Reading.{held}
+use Rattle.frames.specs.declared.count.Counts.{Counts}
+use Rattle.frames.specs.declared.count.Blame.{Blame}
+use Rattle.frames.specs.declared.count.Reading.{Reading}
+use Rattle.frames.specs.declared.count.Reading.the-variants as was
+use Rattle.pool.specs.Pool.{Pool}
+use Rattle.pool.specs.Verdict.{Verdict}
+use Rattle.pool.specs.Numbered.{poolOf}
+use Rattle.pool.specs.Ranking.{Tabling}
+use Rattle.pool.specs.Tabled.{tabled}
+use Rattle.requests.specs.Whole.{poolIn}
+use Rattle.requests.specs.Reads.{ReadInto, read-is, pool-is}
+use Rattle.evaluator_step.specs.Decoding.{goodList}
+use Rattle.evaluator_cells.specs.Numbers.{Modulus}
+use Rattle.evaluator_cells.specs.Given.{lent, goodValues}
+use Rattle.evaluator_cells.specs.Literals.{broughtAt, NumbersAre, NumbersOf, FillAsks}
+use Rattle.evaluator_cells.specs.Laws.Literals.{numbers-of, numbers-below}
+use Rattle.evaluator_run.specs.Evaluation.{Valued, wellFormed, ruling}
+use Rattle.evaluator_run.specs.Computing.{ComputeAsks, ComputeGiven, computedSays}
+use Rattle.evaluator_run.specs.declared.compute.Computed.{Computed}
+use Rattle.evaluator_run.specs.declared.compute.Computed.the-variants as computed
+use Rattle.evaluator.specs.Answer.{Judged, Evaluates, answerSays, Tells, PoolAsks, PoolEvaluated, ReadEvaluated}
 use Rattle.evaluator.specs.declared.evaluate.Evaluation.{Evaluation}
 use Rattle.evaluator.specs.declared.evaluate.Evaluation.the-variants as answer
 
--- ---- the table at the beginning
+-- ---- an admitted pool
 
-pub kept-zeros : (m a b c d : ℕ) → a ≡ idLimit → b ≡ cellLimit → c ≡ cellLimit → d ≡ cellLimit → Kept m (table (replicate a 0) (replicate b 0) (replicate c 0) (replicate d 0) 0)
-kept-zeros m a b c d p q r s =
-    record {
-      chained =
-          chained-none (replicate a 0) (replicate b 0) (replicate c 0) (ap (λ n. replicate n 0) p) (length-replicate a 0 ∙ p) (length-replicate b 0 ∙ q)
-          (length-replicate c 0 ∙ r);
-      size = length-replicate d 0 ∙ s;
-      reduced = λ j l. absurd (omega arith);
-    }
+-- what is well formed, part by part
+module _ (list : List ℕ) (m : ℕ) (ws : List ℕ) (h : wellFormed ws m list ≡ true) where
+  rest : (goodList list && goodValues ws) ≡ true
+  unfolding wellFormed
+  rest = and-right (leb 2 m) (goodList list && goodValues ws) h
 
--- ---- records of bytes
+  pub formed-modulus : 2 ≤ m
+  unfolding wellFormed
+  formed-modulus = leb-true 2 m (and-left (leb 2 m) (goodList list && goodValues ws) h)
 
-abbrev pub Bytes : List ℕ → Type 0
-Bytes l = (i : ℕ) → getD l i 0 < 256
+  pub formed-list : goodList list ≡ true
+  formed-list = and-left (goodList list) (goodValues ws) rest
 
-module _ (l : List ℕ) (b : Bytes l) where
-  narrow-at : (i : ℕ) → Narrow (refAt l i)
-  unfolding refAt u16At
-  narrow-at i = omega (arith, b (i + 2), b (i + 2 + 1))
+  pub formed-values : goodValues ws ≡ true
+  formed-values = and-right (goodList list) (goodValues ws) rest
 
-  narrow-counted : (n : ℕ) (r0 r1 r2 : Reference) → Narrow r0 → Narrow r1 → Narrow r2 → Each Narrow (upTo n (r0 ∷ r1 ∷ r2 ∷ []))
-  narrow-counted zero r0 r1 r2 a c d = tt
-  narrow-counted (suc zero) r0 r1 r2 a c d = (a, tt)
-  narrow-counted (suc (suc zero)) r0 r1 r2 a c d = (a, (c, tt))
-  narrow-counted (suc (suc (suc zero))) r0 r1 r2 a c d = (a, (c, (d, tt)))
-  narrow-counted (suc (suc (suc (suc n)))) r0 r1 r2 a c d = (a, (c, (d, tt)))
+module _ {count : ℕ} {list : List ℕ} {m : ℕ} {ws : List ℕ} (a : PoolAsks count list m ws) where
+  pub modulus : Modulus m
+  modulus = record { from = formed-modulus list m ws (a .formed); small = a .small }
 
-  narrow-step : (i : ℕ) → NarrowStep (stepAt l i)
-  unfolding stepAt
-  narrow-step i =
+  pub fill-asks : (ns : List ℕ) → ns ≡ replicate nodeLimit 0 → FillAsks count m ns
+  fill-asks ns e = record { few = a .few; modulus = modulus; zeros = e }
+
+  module _ {nodes literals ns : List ℕ} (f : NumbersAre nodes literals m count ns) where
+    brought : (e : List ℕ) (k : ℕ) → NumbersOf (broughtAt (tabled (Tabling nodes literals e count k))) m ns
+    brought e k = numbers-of (Tabling nodes literals e count k) m modulus ns (a .few) f
+
+    pub compute-asks : ComputeAsks ns ws m list
+    compute-asks =
+        record {
+          lends = record { good = formed-values list m ws (a .formed); modulus = modulus };
+          reduced = numbers-below (broughtAt (tabled (Tabling nodes literals [] count 0))) m ns modulus (brought [] 0) (f .size);
+          good = formed-list list m ws (a .formed);
+        }
+
+    -- the answer is what was computed
+    pub pool-told :
+        {out out′ : List ℕ} {c : Computed} {r : Evaluation} → ComputeGiven ns ws m list out out′ c → answerSays r ≡ computedSays c
+        → PoolEvaluated nodes literals count list m ws out out′ r
+    pool-told g q e k =
+        let z = g (broughtAt (tabled (Tabling nodes literals e count k))) (brought e k) in
+        record { says = q ∙ z .says; bytes = z .bytes }
+
+pub told-as : {c d : Computed} {x : Answer ℕ} → c ≡ d → x ≡ computedSays d → x ≡ computedSays c
+told-as e h = h ∙ ap computedSays (sym e)
+
+-- ---- what was read
+
+module _ (nodes literals expressions : List ℕ) (c : Counts) (list : List ℕ) (m : ℕ) (ws out : List ℕ) {b : Bool} (e : b ≡ wellFormed ws m list) where
+  pub ill-formed : b ≡ false → ReadEvaluated nodes literals expressions c list m ws out out answer.IllFormed
+  ill-formed h =
       record {
-        dest = narrow-at (i + 4);
-        sources = narrow-counted (getD l (i + 1) 0) (refAt l (i + 16)) (refAt l (i + 28)) (refAt l (i + 40)) (narrow-at (i + 16)) (narrow-at (i + 28)) (narrow-at (i + 40));
+        answer = refused Refusal.malformed none;
+        malformed = λ q. refl;
+        judged = λ q. absurd (true-false q (sym e ∙ h));
+        tells = record { says = refl; bytes = refl };
       }
 
-  module _ (nodes literals : List ℕ) (m : ℕ) (g : Lent) where
-    fine-first : (n : ℕ) → goodRecords (stepsOf l n) ≡ true → Each (Fine nodes literals m g) (stepsOf l n)
-    unfolding goodRecords
-    fine-first zero h = rw (steps-none l) tt
-    fine-first (suc n) h =
-        let x = stepAt l (stepSize * n) in
-        let q : (goodRecords (stepsOf l n) && goodRecords (x ∷ [])) ≡ true = sym (good-append (stepsOf l n) (x ∷ [])) ∙ rw (steps-more l n) at h in
-        let a = and-left (goodRecords (stepsOf l n)) (goodRecords (x ∷ [])) q in
-        let c = and-right (goodRecords (stepsOf l n)) (goodRecords (x ∷ [])) q in
-        rw (steps-more l n)
-        (each-join (Fine nodes literals m g) (stepsOf l n) (x ∷ []) (fine-first n a)
-        (record { good = and-left (goodRecord x) true c; narrow = narrow-step (stepSize * n) }, tt))
+  module _ (h : b ≡ true) where
+    pub pool-refused :
+        {k : Refusal} {o : Option ℕ} {r : Evaluation} → Verdict (poolIn nodes literals expressions c) [] (refused k o) → answerSays r ≡ refused k o
+        → ReadEvaluated nodes literals expressions c list m ws out out r
+    pool-refused {k} {o} v q =
+        record {
+          answer = refused k o;
+          malformed = λ z. absurd (true-false (sym e ∙ h) z);
+          judged = λ z. (refused k o, v, refl);
+          tells = record { says = q; bytes = refl };
+        }
 
-    pub fine-all : goodList l ≡ true → Each (Fine nodes literals m g) (recordsIn l)
-    unfolding goodList
-    fine-all h = fine-first (recordCount l) (and-right (eqb (length l % stepSize) 0) (goodRecords (recordsIn l)) h)
+    pub pool-admitted :
+        {out′ : List ℕ} {r : Evaluation} → Verdict (poolIn nodes literals expressions c) [] (done tt)
+        → PoolEvaluated nodes literals (c .nodes) list m ws out out′ r → ReadEvaluated nodes literals expressions c list m ws out out′ r
+    pool-admitted v p =
+        record {
+          answer = ruling (broughtAt (poolIn nodes literals expressions c)) (lent ws) m list (length out);
+          malformed = λ z. absurd (true-false (sym e ∙ h) z);
+          judged = λ z. (done tt, v, refl);
+          tells = p expressions (c .expressions);
+        }
 
--- ---- the bytes of the answer
+-- ---- frames
 
-pub valued-length : (s : Store ℕ) (cs : List Cell) → length (valuedBy s cs) ≡ length cs
-unfolding valuedBy
-valued-length s [] = refl
-valued-length s (c ∷ cs) = ap suc (valued-length s cs)
+refused-both : {A B : Type 0} {k l : Refusal} {o p : Option ℕ} → _≡_ {A = Answer A} (refused k o) (refused l p) → _≡_ {A = Answer B} (refused k o) (refused l p)
+refused-both {k = k} {l = l} {o = o} {p = p} e =
+    let a : k ≡ l = cc in
+    let b : o ≡ p = cc in
+    rw (a, b)
 
-bytes-of-key : (c : Cell) (v : ℕ) → Small c → keyedBytes (keyOf c) v ≡ valuedBytes (record { cell = c; value = v })
-unfolding keyedBytes valuedBytes keyNo
-bytes-of-key (Cell.cell k i r) v l =
-    let n = kindNo k * 2 + r in
-    let key = n * idLimit + i in
-    let a : key % idLimit ≡ i = mul-add-mod-self-right n idLimit i ∙ mod-eq-of-lt {n = i} {m = idLimit} (l .0) in
-    let d = div-add-mod' key idLimit in
-    let b : key / idLimit ≡ n = omega arith in
-    let c : n % 2 ≡ r = mul-add-mod-self-right (kindNo k) 2 r ∙ mod-eq-of-lt {n = r} {m = 2} (l .1) in
-    let e = div-add-mod' n 2 in
-    let p : key / idLimit % 2 ≡ r = rw b c in
-    let h : n / 2 ≡ kindNo k = omega arith in
-    let q : key / idLimit / 2 ≡ kindNo k = rw b h in
-    rw (a, p, q)
+module _ {u : Tables} {x : Answer Input} {r : Reading} (a : ReadInto u r x) (list : List ℕ) (m : ℕ) (ws : List ℕ) (out : List ℕ) where
+  unread : {k : Refusal} {o : Option ℕ} → refused k o ≡ x → Evaluates list m ws (length out) x (refused k o)
+  unread h =
+      record {
+        unread = λ k o q. refused-both (h ∙ q);
+        malformed = λ i q. absurd (done-not-refused (sym q ∙ sym h));
+        judged = λ i q. absurd (done-not-refused (sym q ∙ sym h));
+      }
 
-up-to-more : {A : Type 0} (l : List A) (n : ℕ) (a : A) → nth l n ≡ some a → upTo (suc n) l ≡ upTo n l ++ (a ∷ [])
-up-to-more [] n a e = absurd (Option·none-ne-some a e)
-up-to-more (x ∷ l) zero a e =
-    let q : x ≡ a = cc in
-    rw q
-up-to-more (x ∷ l) (suc n) a e = ap (λ t. x ∷ t) (up-to-more l n a e)
+  abbrev Is : List ℕ → Evaluation → Type 0
+  Is out′ g = (z : Answer (List Valued)) × Evaluates list m ws (length out) x z × Tells z out out′ g
 
-up-to-all : {A : Type 0} (l : List A) → upTo (length l) l ≡ l
-up-to-all [] = refl
-up-to-all (x ∷ l) = ap (λ t. x ∷ t) (up-to-all l)
+  pub malformed-told : {b : Blame} → r ≡ was.Malformed b → Is out (answer.Malformed b)
+  malformed-told {b} q = (refused Refusal.malformed (blameAnswer b), unread (ap (held u) (sym q) ∙ a .answer), record { says = refl; bytes = refl })
 
-valued-append : (s : Store ℕ) (cs ds : List Cell) → valuedBy s (cs ++ ds) ≡ valuedBy s cs ++ valuedBy s ds
-unfolding valuedBy
-valued-append s [] ds = refl
-valued-append s (c ∷ cs) ds = ap (λ t. record { cell = c; value = heldIn (s c) } ∷ t) (valued-append s cs ds)
+  pub limit-told : {b : Blame} → r ≡ was.Full b → Is out (answer.Limit b)
+  limit-told {b} q = (refused Refusal.full (blameAnswer b), unread (ap (held u) (sym q) ∙ a .answer), record { says = refl; bytes = refl })
 
-bytes-append : (vs ws : List Valued) → valuesBytes (vs ++ ws) ≡ valuesBytes vs ++ valuesBytes ws
-unfolding valuesBytes
-bytes-append [] ws = refl
-bytes-append (v ∷ vs) ws = rw (bytes-append vs ws, append-assoc)
-
-module _ (s : Store ℕ) (ds : List Cell) (t : Table) (h : Held s ds t) where
-  keyed-first : (n : ℕ) → n ≤ length ds → keyedTo (t .keys) (t .values) n ≡ valuesBytes (valuedBy s (upTo n ds))
-  unfolding keyedTo valuedBy valuesBytes
-  keyed-first zero l = refl
-  keyed-first (suc n) l =
-      let c = nth-there ds n (omega arith) in
-      let k = h .keys n (c .0) (c .1) in
-      let v = h .values n (c .0) (c .1) in
-      let e : keyedBytes (getD (t .keys) n 0) (getD (t .values) n 0) ≡ valuesBytes (valuedBy s (c .0 ∷ []))
-      = rw (k, v, append-nil) (bytes-of-key (c .0) (getD (t .values) n 0) (h .small n (c .0) (c .1))) in
-      rw (up-to-more ds n (c .0) (c .1), valued-append, bytes-append, ← keyed-first n (omega arith), e)
-
-  keyed-is : keyedTo (t .keys) (t .values) (t .count) ≡ valuesBytes (valuedBy s ds)
-  keyed-is = rw (← h .count) (keyed-first (length ds) (omega arith) ∙ rw (up-to-all ds))
-
-  keys-small : (j : ℕ) → j < t .count → getD (t .keys) j 0 < keyLimit
-  keys-small j l =
-      let c = nth-there ds j (omega (arith, h .count)) in
-      rw (h .keys j (c .0) (c .1)) (key-small (c .0) (h .small j (c .0) (c .1)))
-
--- ---- the answer
-
-module _ (nodes literals : List ℕ) (g : Lent) (m : ℕ) (list out : List ℕ) where
-  answer-is :
-      {out′ : List ℕ} {r : Evaluation} (a : Answer (List Valued)) → evaluation nodes literals g m list (length out) ≡ a
-      → answerSays r ≡ (a then λ vs. done (length vs)) → out′ ≡ outAfter out a → EvaluationIs nodes literals g m list out out′ r
-  answer-is a e p q = record { says = p ∙ ap (λ x. x then λ vs. done (length vs)) (sym e); bytes = q ∙ ap (outAfter out) (sym e) }
-
-  pub answer-modulus : m < 2 → EvaluationIs nodes literals g m list out out answer.Malformed
-  unfolding evaluation
-  answer-modulus h = answer-is (refused Refusal.malformed none) (rw (lt-leb 2 m h)) refl refl
-
-  pub answer-malformed : 2 ≤ m → (b : Bool) → b ≡ goodList list → b ≡ false → EvaluationIs nodes literals g m list out out answer.Malformed
-  unfolding evaluation
-  answer-malformed l b e h =
-      let z : goodList list ≡ false = sym e ∙ h in
-      answer-is (refused Refusal.malformed none) (rw (le-leb 2 m l, z)) refl refl
-
-  module _ (o : Modulus m) (b : Bool) (eb : b ≡ goodList list) (hb : b ≡ true) where
-    ruled-is : evaluation nodes literals g m list (length out) ≡ ruled (length out) (bind (stepsFrom nodes literals (recordsIn list)) (computed m g))
-    unfolding evaluation
-    ruled-is =
-        let z : goodList list ≡ true = sym eb ∙ hb in
-        rw (le-leb 2 m (o .from), z)
-
-    refused-is : bind (stepsFrom nodes literals (recordsIn list)) (λ xs. run (modulo m) (given m g) xs empty) ≡ none → EvaluationIs nodes literals g m list out out answer.NoRule
-    refused-is h = answer-is (refused Refusal.noRule none) (ruled-is ∙ ap (ruled (length out)) (by (stepsFrom nodes literals (recordsIn list)) h)) refl refl
-      where
-        by : (l : Option (List Step)) → bind l (λ xs. run (modulo m) (given m g) xs empty) ≡ none → bind l (computed m g) ≡ none
-        by none h = refl
-        by (some xs) h = rw h
-
-    -- where the list runs to its end
-    module _ (xs : List Step) (e : stepsFrom nodes literals (recordsIn list) ≡ some xs) (s : Store ℕ) (f : run (modulo m) (given m g) xs empty ≡ some s) where
-      fitting-is : evaluation nodes literals g m list (length out) ≡ fitting (length out) (valuedBy s (written xs))
-      fitting-is = ruled-is ∙ rw (e, f)
-
-      full-is : (leb (length (written xs)) cellLimit && leb (valuedSize * length (written xs)) (length out)) ≡ false → EvaluationIs nodes literals g m list out out answer.Full
-      full-is h = answer-is (refused Refusal.full none) (fitting-is ∙ rw (valued-length s (written xs), h)) refl refl
-
-      done-is :
-          {out′ : List ℕ} (n : ℕ) → length (written xs) ≡ n → n ≤ cellLimit → valuedSize * n ≤ length out → out′ ≡ write out 0 (valuesBytes (valuedBy s (written xs)))
-          → EvaluationIs nodes literals g m list out out′ (answer.Cells n)
-      done-is n c l r q =
-          answer-is (done (valuedBy s (written xs))) (fitting-is ∙ rw (valued-length s (written xs), c, le-leb n cellLimit l, le-leb (valuedSize * n) (length out) r))
-          (ap done (sym (valued-length s (written xs) ∙ c))) q
-
-    module _ (bs : Bytes list) (t : Table) (kept : Kept m t) (none-yet : t .count ≡ 0) where
-      fine : Each (Fine nodes literals m g) (recordsIn list)
-      fine = fine-all list bs nodes literals m g (sym eb ∙ hb)
-
-      sim : (w : Outcome) → w ≡ runTo nodes literals m g t (recordsIn list) → Simulated nodes literals m g (recordsIn list) empty [] w
-      sim w e =
-          subst (Simulated nodes literals m g (recordsIn list) empty []) (sym e)
-          (simulated nodes literals m g (recordsIn list) fine o empty [] t (held-none t none-yet) kept)
-
-      pub answer-no-rule : noRule ≡ runTo nodes literals m g t (recordsIn list) → EvaluationIs nodes literals g m list out out answer.NoRule
-      answer-no-rule e = refused-is (sim noRule e)
-
-      marks : MarkedAll nodes literals m g (recordsIn list) empty (marksTo m g (replicate slotCount 0) (recordsIn list))
-      marks = marked-all nodes literals m g (recordsIn list) fine empty (replicate slotCount 0) present-none
-
-      module _ (e : over ≡ runTo nodes literals m g t (recordsIn list)) (c : Bool) (ec : c ≡ isKnown (marksTo m g (replicate slotCount 0) (recordsIn list))) where
-        pub answer-over : c ≡ true → EvaluationIs nodes literals g m list out out answer.Full
-        answer-over h = by (marksTo m g (replicate slotCount 0) (recordsIn list)) marks (sym ec ∙ h)
-          where
-            by : (z : Option (List ℕ)) → MarkedAll nodes literals m g (recordsIn list) empty z → isKnown z ≡ true → EvaluationIs nodes literals g m list out out answer.Full
-            by none y q = absurd (let z : _≡_ {A = ℕ} 0 1 = cc in omega arith)
-            by (some z) y q = full-is (y .0) (y .1) (y .2 .0) (y .2 .1) (rw (lt-leb (length (written (y .0))) cellLimit (sim over e (y .0) (y .1))))
-
-        pub answer-over-refused : c ≡ false → EvaluationIs nodes literals g m list out out answer.NoRule
-        answer-over-refused h = by (marksTo m g (replicate slotCount 0) (recordsIn list)) marks (sym ec ∙ h)
-          where
-            by : (z : Option (List ℕ)) → MarkedAll nodes literals m g (recordsIn list) empty z → isKnown z ≡ false → EvaluationIs nodes literals g m list out out answer.NoRule
-            by none y q = refused-is y
-            by (some z) y q = absurd (let z : _≡_ {A = ℕ} 0 1 = cc in omega arith)
-
-      module _ (hs ns ks vs : List ℕ) (n : ℕ) (e : next (table hs ns ks vs n) ≡ runTo nodes literals m g t (recordsIn list)) where
-        ended : Simulated nodes literals m g (recordsIn list) empty [] (next (table hs ns ks vs n))
-        ended = sim (next (table hs ns ks vs n)) e
-
-        pub answer-few : n ≤ cellLimit
-        answer-few = ended .2 .3 .chained .few
-
-        pub answer-asks : valuedSize * n ≤ length out → KeyedAllAsk ks n (length out)
-        answer-asks h = record { few = answer-few; fits = h; small = keys-small (ended .2 .0) (written (ended .0)) (table hs ns ks vs n) (ended .2 .2) }
-
-        pub answer-full : length out < valuedSize * n → EvaluationIs nodes literals g m list out out answer.Full
-        answer-full h =
-            let c : length (written (ended .0)) ≡ n = ended .2 .2 .count in
-            full-is (ended .0) (ended .1) (ended .2 .0) (ended .2 .1) (rw (c, le-leb n cellLimit answer-few, lt-leb (valuedSize * n) (length out) h))
-
-        pub answer-cells : {out′ : List ℕ} → valuedSize * n ≤ length out → out′ ≡ write out 0 (keyedTo ks vs n) → EvaluationIs nodes literals g m list out out′ (answer.Cells n)
-        answer-cells h q =
-            done-is (ended .0) (ended .1) (ended .2 .0) (ended .2 .1) n (ended .2 .2 .count) answer-few h
-            (q ∙ ap (write out 0) (keyed-is (ended .2 .0) (written (ended .0)) (table hs ns ks vs n) (ended .2 .2)))
+  pub read-told : {c : Counts} {out′ : List ℕ} {g : Evaluation} → r ≡ was.Read c → ReadEvaluated (u .nodes) (u .literals) (u .expressions) c list m ws out out′ g → Is out′ g
+  read-told {c} q h = (
+    h .answer,
+    record {
+      unread = λ k o e. absurd (done-not-refused (read-is a q ∙ e));
+      malformed = λ i e w. h .malformed w;
+      judged = λ i e w.
+          let j : inputIn u c ≡ i = done-same _ _ (read-is a q ∙ e) in
+          subst (λ (y : Input). Judged list m ws (length out) (poolOf y) (h .answer)) j
+          (subst (λ (p : Pool). Judged list m ws (length out) p (h .answer)) (sym (pool-is a q)) (h .judged w));
+    },
+    h .tells,
+  )

@@ -1,16 +1,16 @@
 -- THE BYTES OF A LIST OF STEPS, READ BACK: its records are well formed and say those steps, where each number reference carries what its node brings.
 -- Assumes nothing.
-use Prim.Native.Nat.{ℕ, zero, suc, _+_, _*_, _/_, _%_, _<_, _≤_}
+use Prim.Native.Nat.{ℕ, _+_, _*_, _%_, _<_, _≤_}
 use mathlib.Core.Path.{_≡_, refl, sym, _∙_, ap}
-use mathlib.Core.Bool.{Bool, true, false, cond, _&&_}
-use mathlib.Core.Option.{Option, none, some}
+use mathlib.Core.Bool.{true, false}
+use mathlib.Core.Option.{some}
 use mathlib.Core.List.{List, [], _∷_, _++_, append-nil}
 use native.Mathlib.Nat.{div-add-mod', mul-mod-right}
 use native.Mathlib.Omega.{arith}
-use lib.ListN.{length, drop}
+use lib.ListN.{length}
 use lib.Seq.{drop-length}
-use lib.Dec.{eqb, leb, ltb}
-use borrow.Author.Tests.{le-leb, lt-ltb, eq-eqb}
+use lib.Dec.{eqb}
+use borrow.Author.Tests.{le-leb, eq-eqb}
 use Rattle.kinds.specs.KindBytes as kind
 use Rattle.kinds.specs.Kinds.{isReference, isLeaf}
 use Rattle.kinds.specs.Range.{within}
@@ -18,15 +18,13 @@ use Rattle.kinds.specs.Write.{write, write-is}
 use Rattle.kinds.specs.Steps.{stepSize, stepsOf, stepsBytes, steps-none, steps-joined, steps-bytes-length}
 use Rattle.kinds.specs.declared.reference.Reference.{Reference}
 use Rattle.kinds.specs.declared.step.Step as bytes
-use Rattle.meaning.specs.Trees.{Lit, RowKind, FlatKind, XKind, Each, upTo}
+use Rattle.meaning.specs.Trees.{RowKind, FlatKind, XKind, Each, upTo}
 use Rattle.meaning.specs.Steps.{BareKind, Kind, kindNo, Cell, Ref, StepOp, stepNo, Step}
-use Rattle.frames.specs.Order.{nodeLimit}
-use Rattle.pool.specs.Laws.Tabled.{node-count, node-at}
 use Rattle.starkinfo_codegen.specs.Encoding.{refOf, sourceOf, stepRecord, records, records-length, encoded, encoded-length}
-use Rattle.starkinfo_codegen.specs.Emitting.{Rest, tablesOf, poolOf}
-use Rattle.output.specs.Records.{broughtBy, literalIn}
-use Rattle.output.specs.Shown.{IsCell, Says, RefSays, StepSays}
-use Rattle.evaluator.specs.Decoding.{recordCount, recordsIn, countedIn, goodReference, goodReferences, goodRecord, goodRecords, goodList, kindFrom, opFrom, refFrom, refsFrom, stepFrom, stepsFrom}
+use Rattle.output.specs.Shown.{IsCell, RefSays, StepSays}
+use Rattle.pool.specs.Pool.{Pool}
+use Rattle.evaluator_cells.specs.Literals.{broughtAt}
+use Rattle.evaluator_step.specs.Decoding.{recordCount, recordsIn, goodReference, goodReferences, goodRecord, goodRecords, goodList, kindFrom, opFrom, refFrom, refsFrom, stepFrom, stepsFrom}
 
 -- ---- kinds and steps
 
@@ -95,46 +93,39 @@ counted-refs (a ∷ b ∷ []) h = refl
 counted-refs (a ∷ b ∷ c ∷ []) h = refl
 counted-refs (a ∷ b ∷ c ∷ d ∷ rs) h = absurd (omega arith)
 
-module _ (w : List ℕ) (b : Rest) (few : b .nodeCount ≤ nodeLimit) where
-  literal-back : (n : ℕ) (l : Lit) → Says (poolOf w b) n l → literalIn w (b .literals) n ≡ l
-  unfolding literalIn
-  literal-back n l h =
-      let g : n < b .nodeCount = rw (node-count (tablesOf w b)) at (h .0) in
-      let f : n < nodeLimit = omega arith in
-      rw (lt-ltb n nodeLimit f) (ap broughtBy (sym (node-at (tablesOf w b) n g)) ∙ sym (h .1))
-
-  ref-back : (r : Ref) → RefSays (poolOf w b) r → refFrom w (b .literals) (refOf r) ≡ some r
+module _ (p : Pool) where
+  ref-back : (r : Ref) → RefSays p r → refFrom (broughtAt p) (refOf r) ≡ some r
   unfolding refFrom
   ref-back (Ref.var (Cell.cell k i r)) h = rw (kind-known k .0, kind-known k .1)
-  ref-back (Ref.number l n) h = rw (literal-back n l h)
+  ref-back (Ref.number l n) h = rw (← h .1)
 
-  cell-back : (r : Ref) → IsCell r → refFrom w (b .literals) (refOf r) ≡ some r
+  cell-back : (r : Ref) → IsCell r → refFrom (broughtAt p) (refOf r) ≡ some r
   cell-back (Ref.var c) h = ref-back (Ref.var c) tt
   cell-back (Ref.number l n) h = absurd h
 
-  refs-back : (rs : List Ref) → Each (RefSays (poolOf w b)) rs → refsFrom w (b .literals) (refsOf rs) ≡ some rs
+  refs-back : (rs : List Ref) → Each (RefSays p) rs → refsFrom (broughtAt p) (refsOf rs) ≡ some rs
   unfolding refsFrom
   refs-back [] h = refl
   refs-back (r ∷ rs) h = rw (ref-back r (h .0), refs-back rs (h .1))
 
   -- ---- steps
 
-  step-back : (s : Step) → StepSays (poolOf w b) s → stepFrom w (b .literals) (stepRecord s) ≡ some s
+  step-back : (s : Step) → StepSays p s → stepFrom (broughtAt p) (stepRecord s) ≡ some s
   unfolding stepFrom
   step-back s h = rw (op-known (s .op), cell-back (s .destination) (h .into), counted-refs (s .sources) (h .few), refs-back (s .sources) (h .from))
 
-  step-good : (s : Step) → StepSays (poolOf w b) s → StepInTwo s → goodRecord (stepRecord s) ≡ true
+  step-good : (s : Step) → StepSays p s → StepInTwo s → goodRecord (stepRecord s) ≡ true
   unfolding goodRecord
   step-good s h r =
       rw
       (le-leb (length (s .sources)) 3 (h .few), good-ref (s .destination) (r .dest), counted-refs (s .sources) (h .few), good-refs (s .sources) (r .sources))
 
-  steps-back : (ss : List Step) → Each (StepSays (poolOf w b)) ss → stepsFrom w (b .literals) (records ss) ≡ some ss
+  steps-back : (ss : List Step) → Each (StepSays p) ss → stepsFrom (broughtAt p) (records ss) ≡ some ss
   unfolding stepsFrom records
   steps-back [] h = refl
   steps-back (s ∷ ss) h = rw (step-back s (h .0), steps-back ss (h .1))
 
-  steps-good : (ss : List Step) → Each (StepSays (poolOf w b)) ss → Each StepInTwo ss → goodRecords (records ss) ≡ true
+  steps-good : (ss : List Step) → Each (StepSays p) ss → Each StepInTwo ss → goodRecords (records ss) ≡ true
   unfolding goodRecords records
   steps-good [] h r = refl
   steps-good (s ∷ ss) h r = rw (step-good s (h .0) (r .0), steps-good ss (h .1) (r .1))
@@ -162,10 +153,10 @@ module _ (w : List ℕ) (b : Rest) (few : b .nodeCount ≤ nodeLimit) where
       ∙ rw (steps-none (stepsBytes (records ss)))
 
   -- THE STEPS OF THE BYTES
-  pub list-back : (ss : List Step) → Each (StepSays (poolOf w b)) ss → stepsFrom w (b .literals) (recordsIn (encoded ss)) ≡ some ss
+  pub list-back : (ss : List Step) → Each (StepSays p) ss → stepsFrom (broughtAt p) (recordsIn (encoded ss)) ≡ some ss
   list-back ss h = rw (records-back ss) (steps-back ss h)
 
-  pub list-good : (ss : List Step) → Each (StepSays (poolOf w b)) ss → Each StepInTwo ss → goodList (encoded ss) ≡ true
+  pub list-good : (ss : List Step) → Each (StepSays p) ss → Each StepInTwo ss → goodList (encoded ss) ≡ true
   unfolding goodList
   list-good ss h r =
       let z : length (encoded ss) % stepSize ≡ 0 = rw (encoded-length ss) (mul-mod-right stepSize (length ss)) in

@@ -2,18 +2,16 @@
 -- Assumes nothing.
 use Prim.Native.Nat.{ℕ, _+_, _<_, _≤_}
 use mathlib.Core.Path.{_≡_, refl, sym, _∙_, subst}
-use mathlib.Core.Bool.{Bool, true, false}
-use mathlib.Core.Option.{Option, none, some, Option·none-ne-some}
+use mathlib.Core.Option.{Option, none, some}
 use mathlib.Core.List.{List, [], _∷_, _++_}
-use mathlib.Core.Logic.{_↔_}
 use native.Mathlib.Omega.{arith}
 use lib.ListN.{length}
 use borrow.Author.Tests.{ltb-true}
-use Rattle.meaning.specs.Refusals.{Answer, done, refused, _then_}
-use Rattle.meaning.specs.Trees.{Leaf, Placed, _at_, Expr, Expression, Forest, nth, leaves, Each, Acyclic}
-use Rattle.meaning.specs.Steps.{Cell, Ref, StepOp, Step, step, tmpRef, expCell}
-use Rattle.meaning.specs.Emission.{leafRef, Own, Emitted, Settled, settle, settled, emit, rootStep, blockSteps}
-use Rattle.meaning.specs.Order.{Marks, Job, Asked, asked, there, ask, unmarked}
+use Rattle.meaning.specs.Refusals.{done, _then_}
+use Rattle.meaning.specs.Trees.{Leaf, _at_, Expr, Expression, Forest, nth, leaves, Each, Acyclic}
+use Rattle.meaning.specs.Steps.{Ref, Step, step, tmpRef, expCell}
+use Rattle.meaning.specs.Emission.{leafRef, Own, Emitted, Settled, settle, settled, emit, rootStep}
+use Rattle.meaning.specs.Order.{Marks, Job, Asked, asked, there, unmarked}
 use Rattle.meaning.specs.Generation.{Block, State, start, Request, makeOne, make, adding, serveAll}
 use Rattle.meaning.specs.Building.{Segment, every, segment, whole}
 use Rattle.meaning.specs.Demand3.{NoResult}

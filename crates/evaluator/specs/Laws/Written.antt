@@ -1,21 +1,21 @@
 -- Laws of the cells written: whatever a run leaves a value in is among them, and stands in the answer with that value; there are no more of them than steps.
 -- Assumes nothing.
-use Prim.Native.Nat.{ℕ, _<_, _≤_, _+_}
-use mathlib.Core.Path.{_≡_, refl, sym, _∙_, ap, subst}
+use Prim.Native.Nat.{ℕ, _≤_, _+_}
+use mathlib.Core.Path.{_≡_, refl, subst}
 use mathlib.Core.Bool.{Bool, true, false, cond, _||_}
-use mathlib.Core.Option.{Option, none, some, Option·none-ne-some}
+use mathlib.Core.Option.{none, some, Option·none-ne-some}
 use mathlib.Core.List.{List, [], _∷_, _++_}
-use mathlib.Core.Logic.{_⊎_, inl, inr}
+use mathlib.Core.Logic.{inl, inr}
 use native.Mathlib.Omega.{arith}
 use lib.ListN.{length, length-append}
 use Rattle.meaning.specs.Trees.{Each, Member}
-use Rattle.meaning.specs.Values.{Algebra, Given, bind}
+use Rattle.meaning.specs.Values.{Algebra, Given}
 use Rattle.meaning.specs.Steps.{Cell, same, place, Ref, Step}
 use Rattle.meaning.specs.Running as running
 use Rattle.meaning.specs.Running.{Store, writable, computes, exec, run}
 use Rattle.meaning.specs.Laws.Tests.{bind-some, each-join, each-map}
 use Rattle.meaning.specs.Laws.Cells.{same-eq, same-refl}
-use Rattle.evaluator.specs.Evaluation.{isAmong, adding, writing, writtenAfter, Valued, heldIn, valuedBy}
+use Rattle.evaluator_run.specs.Evaluation.{isAmong, adding, writing, writtenAfter, Valued, valuedBy}
 
 member-left : {A : Type 0} (a : A) (xs ys : List A) → Member a xs → Member a (xs ++ ys)
 member-left a [] ys h = absurd h
