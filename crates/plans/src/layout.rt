@@ -2,6 +2,7 @@
 use kinds::big_endian::u16_at;
 ghost use Prim.Native.Nat.{_+_, _*_, _≤_, _<_};
 ghost use lib.ListN.{length};
+ghost use Rattle.plans.specs.Agreement.{cmCount};
 ghost use Rattle.plans.specs.Plan.{Is, numberLimit, numberAt, Headed, cm1, cm2, cm3, cm4, qDeg, cExp, puCount, peCount, ciCount, imCount, qsCount, q2expCount, peAt, imAt, qsAt, q2expAt, productCount, productAt};
 
 pub const HEAD_SIZE: usize = 13;
@@ -70,6 +71,14 @@ pub fn cm4_of(plan: &[u8]) -> usize
     ensures { λ r. ⌜ Is r (cm4 (now (plan .entry))) numberLimit ⌝ }
 {
     number_at(plan, CM4)
+}
+
+// How many cm numbers there are.
+pub fn cm_count(plan: &[u8]) -> usize
+    requires { ⌜ Headed (now plan) ⌝ }
+    ensures { λ r. ⌜ Is r (cmCount (now (plan .entry))) (4 * numberLimit) ⌝ }
+{
+    cm1_of(plan) + cm2_of(plan) + cm3_of(plan) + cm4_of(plan)
 }
 
 pub fn q_deg_of(plan: &[u8]) -> usize

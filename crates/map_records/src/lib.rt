@@ -1,0 +1,4 @@
+// The records of a plan: `map`, part by part.
+pub mod dim;
+pub mod records;
+pub mod rest;
