@@ -2,4 +2,6 @@
 pub mod Plan
 pub mod Every
 pub mod Columns
+pub mod Among
+pub mod Counting
 pub mod Agreement
