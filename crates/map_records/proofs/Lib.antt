@@ -1,2 +1,4 @@
 -- Lemmas over plain variables, which the functions' proofs cite.
 pub mod Dims
+pub mod Parts
+pub mod Columns

@@ -12,7 +12,8 @@ use Rattle.meaning.specs.Laws.Tests.{and-left, and-right}
 use Rattle.plans.specs.Plan.{every, cm1, cm2, cm3, cm4, qDeg, cExp, puCount, imCount, q2expCount, productCount, fOf, tOf, imOf}
 use Rattle.plans.specs.Columns.{recordLimit, recordCount, pairRecords}
 use Rattle.plans.specs.Agreement.{cmCount, lookupThere, productThere, imThere, q2expThere, namesThere, countsAgree}
-use Rattle.map_records.specs.Tables.{cmLimit, Planned}
+use Rattle.map_records.specs.Mapping.{cmLimit}
+use Rattle.map_records.specs.Tables.{Planned}
 
 pub record Counts (b : List ℕ) : Type 0 where
   pub cm2s : cm2 b ≡ 2 * puCount b

@@ -5,20 +5,19 @@ use mathlib.Core.List.{List, [], _∷_, _++_}
 use native.Mathlib.Omega.{arith}
 use native.Mathlib.Numerals.{add-one}
 use lib.ListN.{length, set, take, length-set}
-use lib.Seq.{take-suc-set, take-set-lt}
+use lib.Seq.{take-suc-set}
 use Rattle.plans.specs.Columns.{recordLimit}
-use Rattle.plans.specs.Agreement.{cmCount}
 use Rattle.map_records.specs.Mapping.{Mapping, pol, pair, twin}
-use Rattle.map_records.specs.Tables.{cmLimit, Holds}
+use Rattle.map_records.specs.Tables.{Holds}
 use Rattle.map_records.specs.Sizes.{snoc-size}
 
 -- a table of n things, with one more
 pub take-more : (l : List ℕ) (n a : ℕ) {xs : List ℕ} → n < length l → take n l ≡ xs → take (n + 1) (set l n a) ≡ xs ++ (a ∷ [])
 take-more l n a {xs} h q = subst (λ k. take k (set l n a) ≡ xs ++ (a ∷ [])) (sym (add-one n)) (take-suc-set l n a h ∙ ap (λ ys. ys ++ (a ∷ [])) q)
 
-module _ {b ss ds cs : List ℕ} {n : ℕ} {m : Mapping} (h : Holds b ss ds cs n m) where
+module _ {ss ds cs : List ℕ} {n : ℕ} {m : Mapping} (h : Holds ss ds cs n m) where
   -- ONE RECORD MORE
-  pub holds-pol : (s d : ℕ) → n < recordLimit → Holds b (set ss n s) (set ds n d) cs (n + 1) (pol s d m)
+  pub holds-pol : (s d : ℕ) → n < recordLimit → Holds (set ss n s) (set ds n d) cs (n + 1) (pol s d m)
   holds-pol s d l =
       record {
         sectionsSize = length-set ss n s ∙ h .sectionsSize;
@@ -32,8 +31,8 @@ module _ {b ss ds cs : List ℕ} {n : ℕ} {m : Mapping} (h : Holds b ss ds cs n
       }
 
   -- a cm's dimension
-  pub holds-dim : (k d : ℕ) → k < cmCount b → Holds b ss ds (set cs k d) n (record { sections = m .sections; dims = m .dims; columns = m .columns; cmDims = set (m .cmDims) k d })
-  holds-dim k d l =
+  pub holds-dim : (k d : ℕ) → Holds ss ds (set cs k d) n (record { sections = m .sections; dims = m .dims; columns = m .columns; cmDims = set (m .cmDims) k d })
+  holds-dim k d =
       record {
         sectionsSize = h .sectionsSize;
         dimsSize = h .dimsSize;
@@ -42,15 +41,15 @@ module _ {b ss ds cs : List ℕ} {n : ℕ} {m : Mapping} (h : Holds b ss ds cs n
         counted = h .counted;
         sections = h .sections;
         dims = h .dims;
-        cmDims = take-set-lt (cmCount b) cs k d l ∙ ap (λ (ys : List ℕ). set ys k d) (h .cmDims);
+        cmDims = ap (λ (ys : List ℕ). set ys k d) (h .cmDims);
       }
 
 -- THE TWO RECORDS OF A CM, and its dimension
 pub holds-pair :
-    {b ss ds cs : List ℕ} {n : ℕ} {m : Mapping} → Holds b ss ds cs n m → (s k d : ℕ) → n + 1 < recordLimit → k < cmCount b →
-    Holds b (set (set ss n s) (n + 1) (twin s)) (set (set ds n d) (n + 1) d) (set cs k d) (n + 2) (pair s k d m)
-holds-pair {b} {ss} {ds} {cs} {n} {m} h s k d l g =
+    {ss ds cs : List ℕ} {n : ℕ} {m : Mapping} → Holds ss ds cs n m → (s k d : ℕ) → n + 1 < recordLimit →
+    Holds (set (set ss n s) (n + 1) (twin s)) (set (set ds n d) (n + 1) d) (set cs k d) (n + 2) (pair s k d m)
+holds-pair {ss} {ds} {cs} {n} {m} h s k d l =
     let one = holds-pol h s d (omega arith) in
     let two = holds-pol one (twin s) d l in
     let e : n + 1 + 1 ≡ n + 2 = omega arith in
-    subst (λ j. Holds b (set (set ss n s) (n + 1) (twin s)) (set (set ds n d) (n + 1) d) (set cs k d) j (pair s k d m)) e (holds-dim two k d g)
+    subst (λ j. Holds (set (set ss n s) (n + 1) (twin s)) (set (set ds n d) (n + 1) d) (set cs k d) j (pair s k d m)) e (holds-dim two k d)

@@ -13,7 +13,6 @@ use Rattle.pool.specs.Pool.{Pool}
 use Rattle.exp_dims.specs.Dimension.{expDim}
 use Rattle.plans.specs.Plan.{cm1, cm2, cm3, qDeg, cExp, puCount, imCount, productCount, fOf, tOf, numOf, denOf, imOf, q2exp}
 use Rattle.plans.specs.Columns.{among, isIm, adding}
-use Rattle.plans.specs.Agreement.{cmCount}
 
 -- the sections of a cm in the domain "n", in document 01's order; five further on is its section in "2ns"
 abbrev pub cm1N : ℕ
@@ -40,6 +39,11 @@ q2ns = 9
 abbrev pub f2ns : ℕ
 f2ns = 10
 
+-- each cm has two records, and there are no more than 4,096
+abbrev pub cmLimit : ℕ
+cmLimit = 2048
+
+-- cm_dims have room for as many cm as a plan may have: those that it has are at the front
 pub record Mapping : Type 0 where
   pub sections : List ℕ
   pub dims : List ℕ
@@ -68,7 +72,7 @@ module _ (b : List ℕ) where
     dimIn m e = expDim (m .cmDims) (q2exp b) p e
 
     abbrev pub fresh : Mapping
-    fresh = record { sections = []; dims = []; columns = []; cmDims = replicate (cmCount b) 0 }
+    fresh = record { sections = []; dims = []; columns = []; cmDims = replicate cmLimit 0 }
 
     -- after the first n of n_cm1
     unfoldable pub cm1s : ℕ → Mapping

@@ -12,16 +12,12 @@ use Rattle.pool.specs.Ranking.{Tabling, Starts}
 use Rattle.plans.specs.Plan.{Whole, numberLimit, imCount, qDeg, q2exp}
 use Rattle.plans.specs.Columns.{recordLimit, recordCount}
 use Rattle.plans.specs.Counting.{Tells, known}
-use Rattle.plans.specs.Agreement.{cmCount, namesThere, countsAgree}
+use Rattle.plans.specs.Agreement.{namesThere, countsAgree}
 use Rattle.exp_dims.specs.Dimension.{expDim}
-use Rattle.map_records.specs.Mapping.{Mapping, column, intermediates, qDim, quotients}
+use Rattle.map_records.specs.Mapping.{cmLimit, Mapping, column, intermediates, qDim, quotients}
 
--- each cm has two records
-abbrev pub cmLimit : ℕ
-cmLimit = 2048
-
--- n records in tables of sections and dimensions; cm_dims at the front of theirs
-pub record Holds (b ss ds cs : List ℕ) (n : ℕ) (m : Mapping) : Type 0 where
+-- n records in tables of sections and dimensions, and cm_dims
+pub record Holds (ss ds cs : List ℕ) (n : ℕ) (m : Mapping) : Type 0 where
   pub sectionsSize : length ss ≡ recordLimit
   pub dimsSize : length ds ≡ recordLimit
   pub cmSize : length cs ≡ cmLimit
@@ -29,11 +25,11 @@ pub record Holds (b ss ds cs : List ℕ) (n : ℕ) (m : Mapping) : Type 0 where
   pub counted : length (m .dims) ≡ n
   pub sections : take n ss ≡ m .sections
   pub dims : take n ds ≡ m .dims
-  pub cmDims : take (cmCount b) cs ≡ m .cmDims
+  pub cmDims : cs ≡ m .cmDims
 
 -- and a table that tells which expressions get no column any more
 pub record State (b ss ds cs seen : List ℕ) (n : ℕ) (m : Mapping) : Type 0 where
-  pub holds : Holds b ss ds cs n m
+  pub holds : Holds ss ds cs n m
   pub tells : Tells (known b (m .columns)) seen
 
 -- a plan that fits, with counts that agree
@@ -105,16 +101,16 @@ PartGiven w x table b ss ds cs seen n from ss′ ds′ cs′ seen′ r to =
 
 -- the first columns
 abbrev pub HeldAsked : List ℕ → List ℕ → List ℕ → List ℕ → ℕ → (Pool → Mapping) → Type 0
-HeldAsked b ss ds cs n from = Planned b × ((p : Pool) × Holds b ss ds cs n (from p))
+HeldAsked b ss ds cs n from = Planned b × ((p : Pool) × Holds ss ds cs n (from p))
 
 abbrev pub HeldGiven : List ℕ → List ℕ → List ℕ → List ℕ → ℕ → (Pool → Mapping) → List ℕ → List ℕ → List ℕ → ℕ → (Pool → Mapping) → Type 0
-HeldGiven b ss ds cs n from ss′ ds′ cs′ r to = (p : Pool) → Holds b ss ds cs n (from p) → Holds b ss′ ds′ cs′ r (to p)
+HeldGiven b ss ds cs n from ss′ ds′ cs′ r to = (p : Pool) → Holds ss ds cs n (from p) → Holds ss′ ds′ cs′ r (to p)
 
 -- the intermediates
 pub record ImAsks (b : List ℕ) (t : Tables) (rank : ℕ → ℕ) (table ss ds cs : List ℕ) (n : ℕ) : Type 0 where
   pub ready : Ready b t rank
   pub tabling : table ≡ q2exp b
-  pub holds : Holds b ss ds cs n (intermediates b (tabled t) 0)
+  pub holds : Holds ss ds cs n (intermediates b (tabled t) 0)
 
 abbrev pub ImAsked : List ℕ → List ℕ → List ℕ → List ℕ → List ℕ → List ℕ → List ℕ → ℕ → Type 0
 ImAsked w x table b ss ds cs n = (l : List ℕ) × (k : ℕ) × (m : ℕ) × (rank : (ℕ → ℕ)) × ImAsks b (Tabling w l x k m) rank table ss ds cs n
@@ -122,15 +118,15 @@ ImAsked w x table b ss ds cs n = (l : List ℕ) × (k : ℕ) × (m : ℕ) × (ra
 abbrev pub ImGiven : List ℕ → List ℕ → List ℕ → List ℕ → List ℕ → List ℕ → List ℕ → ℕ → List ℕ → List ℕ → List ℕ → ℕ → Type 0
 ImGiven w x table b ss ds cs n ss′ ds′ cs′ r =
     (l : List ℕ) (k m : ℕ) (rank : ℕ → ℕ) → ImAsks b (Tabling w l x k m) rank table ss ds cs n →
-    Holds b ss′ ds′ cs′ r (intermediates b (tabled (Tabling w l x k m)) (imCount b))
+    Holds ss′ ds′ cs′ r (intermediates b (tabled (Tabling w l x k m)) (imCount b))
 
 -- the pieces of the quotient
 pub record QuotientAsks (b ss ds cs : List ℕ) (n d : ℕ) (p : Pool) : Type 0 where
-  pub holds : Holds b ss ds cs n (quotients b p 0)
+  pub holds : Holds ss ds cs n (quotients b p 0)
   pub dim : d ≡ qDim b p
 
 abbrev pub QuotientAsked : List ℕ → List ℕ → List ℕ → List ℕ → ℕ → ℕ → Type 0
 QuotientAsked b ss ds cs n d = Planned b × ((p : Pool) × QuotientAsks b ss ds cs n d p)
 
 abbrev pub QuotientGiven : List ℕ → List ℕ → List ℕ → List ℕ → ℕ → ℕ → List ℕ → List ℕ → List ℕ → ℕ → Type 0
-QuotientGiven b ss ds cs n d ss′ ds′ cs′ r = (p : Pool) → QuotientAsks b ss ds cs n d p → Holds b ss′ ds′ cs′ r (quotients b p (qDeg b))
+QuotientGiven b ss ds cs n d ss′ ds′ cs′ r = (p : Pool) → QuotientAsks b ss ds cs n d p → Holds ss′ ds′ cs′ r (quotients b p (qDeg b))

@@ -8,7 +8,6 @@ use plans::layout::PAIR_SIZE;
 use plans::layout::cm1_of;
 use plans::layout::cm2_of;
 use plans::layout::cm3_of;
-use plans::layout::cm_count;
 use plans::layout::im_at;
 use plans::layout::im_count;
 use plans::layout::number_at;
@@ -28,7 +27,7 @@ pub fn map_cm1(
     plan: &[u8],
     sections: &mut [u16; RECORD_LIMIT],
     dims: &mut [u16; RECORD_LIMIT],
-    cmdims: &mut [u16; CM_LIMIT],
+    cmdims: &mut [u16],
 ) -> usize
     requires { ⌜ HeldAsked (now plan) (now sections) (now dims) (now cmdims) 0 (fresh (now plan)) ⌝ }
     ensures { λ r. ⌜ HeldGiven (now (plan .entry)) (now (sections .entry)) (now (dims .entry)) (now (cmdims .entry)) 0 (fresh (now (plan .entry))) (now (sections .exit)) (now (dims .exit)) (now (cmdims .exit)) r (λ p. cm1s (now (plan .entry)) p (cm1 (now (plan .entry)))) ⌝ }
@@ -51,7 +50,7 @@ pub fn map_intermediates(
     table: &[u64],
     sections: &mut [u16; RECORD_LIMIT],
     dims: &mut [u16; RECORD_LIMIT],
-    cmdims: &mut [u16; CM_LIMIT],
+    cmdims: &mut [u16],
     before: usize,
 ) -> usize
     requires { ⌜ ImAsked (now nodes) (now expressions) (now table) (now plan) (now sections) (now dims) (now cmdims) before ⌝ }
@@ -60,11 +59,10 @@ pub fn map_intermediates(
     let count = im_count(plan);
     let at = im_at(plan);
     let z = cm1_of(plan) + cm2_of(plan);
-    let cms = cm_count(plan);
     let mut i: usize = 0;
     while i < count {
         let e = number_at(plan, at + PAIR_SIZE * i);
-        let d = exp_dim(nodes, expressions, table, &cmdims[..cms], e);
+        let d = exp_dim(nodes, expressions, table, cmdims, e);
         add_pair(sections, dims, before + 2 * i, Section::CM3_N, d);
         cmdims[z + i] = d;
         i += 1;
@@ -76,7 +74,7 @@ pub fn map_quotients(
     plan: &[u8],
     sections: &mut [u16; RECORD_LIMIT],
     dims: &mut [u16; RECORD_LIMIT],
-    cmdims: &mut [u16; CM_LIMIT],
+    cmdims: &mut [u16],
     before: usize,
     qdim: u16,
 ) -> usize

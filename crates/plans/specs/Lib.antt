@@ -5,3 +5,4 @@ pub mod Columns
 pub mod Among
 pub mod Counting
 pub mod Agreement
+pub mod Counts

@@ -30,7 +30,7 @@ const LOOKUP_CMS: usize = 2;
 const LAST_RECORDS: usize = 2;
 
 // A number of two bytes is below it.
-const NUMBER_LIMIT: usize = 65536;
+pub const NUMBER_LIMIT: usize = 65536;
 
 const SEEN: u8 = 1;
 
@@ -45,7 +45,7 @@ fn pair_records(plan: &[u8]) -> usize
 }
 
 // The intermediates are seen, so that none gets a column.
-fn mark_intermediates(plan: &[u8], seen: &mut [u8; NUMBER_LIMIT])
+pub fn mark_intermediates(plan: &[u8], seen: &mut [u8; NUMBER_LIMIT])
     requires { ⌜ Whole (now plan) × Tells (λ _. false) (now seen) ⌝ }
     ensures { λ _. ⌜ Tells (known (now (plan .entry)) []) (now (seen .exit)) ⌝ }
 {
@@ -60,7 +60,7 @@ fn mark_intermediates(plan: &[u8], seen: &mut [u8; NUMBER_LIMIT])
 }
 
 // How many columns an expression adds.
-fn ask(seen: &mut [u8; NUMBER_LIMIT], e: usize) -> usize
+pub fn ask(seen: &mut [u8; NUMBER_LIMIT], e: usize) -> usize
     requires { ⌜ e < numberLimit ⌝ }
     ensures { λ r. ⌜ Asked (now (seen .entry)) e r (now (seen .exit)) ⌝ }
 {

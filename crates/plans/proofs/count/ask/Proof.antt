@@ -1,5 +1,5 @@
 -- `plans::count::ask` meets its contract. Assumes nothing.
-use Rattle.plans.proofs.Counts.{asked-seen, asked-new}
+use Rattle.plans.specs.Counts.{asked-seen, asked-new}
 use borrow.Author.Needs.{needs}
 use Rattle.plans.proofs.count.ask.Statement.{statement}
 use Rattle.plans.proofs.count.ask.Tie as tie

@@ -4,7 +4,7 @@ use native.Mathlib.Omega.{arith}
 use Rattle.plans.specs.Plan.{puCount}
 use Rattle.plans.specs.Columns.{lookups}
 use Rattle.plans.specs.Counting.{Counted}
-use Rattle.plans.proofs.Counts.{asked-few, no-lookups, lookups-next, lookups-end}
+use Rattle.plans.specs.Counts.{asked-few, no-lookups, lookups-next, lookups-end}
 use Rattle.plans.proofs.count.count_lookups.Statement.{statement}
 use Rattle.plans.proofs.count.count_lookups.Tie as tie
 

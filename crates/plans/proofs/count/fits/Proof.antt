@@ -1,5 +1,5 @@
 -- `plans::count::fits` meets its contract. Assumes nothing.
-use Rattle.plans.proofs.Counts.{none-told, too-many, by-columns}
+use Rattle.plans.specs.Counts.{none-told, too-many, by-columns}
 use borrow.Author.Needs.{needs}
 use Rattle.plans.proofs.count.fits.Statement.{statement}
 use Rattle.plans.proofs.count.fits.Tie as tie

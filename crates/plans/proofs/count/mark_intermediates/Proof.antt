@@ -4,7 +4,7 @@ use native.Mathlib.Omega.{arith}
 use Rattle.plans.specs.Plan.{Is, imOf, imCount}
 use Rattle.plans.specs.Counting.{Tells}
 use Rattle.plans.proofs.Places.{at-same}
-use Rattle.plans.proofs.Counts.{imBefore, im-next, im-all}
+use Rattle.plans.specs.Counts.{imBefore, im-next, im-all}
 use Rattle.plans.proofs.count.mark_intermediates.Statement.{statement}
 use Rattle.plans.proofs.count.mark_intermediates.Tie as tie
 
