@@ -2,3 +2,4 @@
 pub mod Dims
 pub mod Parts
 pub mod Columns
+pub mod Pairs

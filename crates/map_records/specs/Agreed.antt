@@ -1,15 +1,15 @@
 -- What a plan that is fine says: its counts by equations, and that each expression it names is there. Assumes nothing.
-use Prim.Native.Nat.{ℕ, zero, suc, _+_, _*_, _<_, _≤_}
+use Prim.Native.Nat.{ℕ, zero, suc, _+_, _-_, _*_, _<_, _≤_}
 use mathlib.Core.Path.{_≡_, refl, sym, _∙_, subst}
-use mathlib.Core.Bool.{Bool, true, false, _&&_}
+use mathlib.Core.Bool.{Bool, true, false, _&&_, cond}
 use mathlib.Core.List.{List}
 use mathlib.Core.Logic.{_⊎_, inl, inr}
 use native.Mathlib.Omega.{arith}
 use native.Mathlib.Nat.{eq-or-lt-of-le, le-of-suc-le-suc, not-suc-le-zero}
 use lib.Dec.{eqb, ltb}
-use borrow.Author.Tests.{eqb-true, ltb-true}
+use borrow.Author.Tests.{eqb-true, ltb-true, ltb-false}
 use Rattle.meaning.specs.Laws.Tests.{and-left, and-right}
-use Rattle.plans.specs.Plan.{every, cm1, cm2, cm3, cm4, qDeg, cExp, puCount, imCount, q2expCount, productCount, fOf, tOf, imOf}
+use Rattle.plans.specs.Plan.{every, cm1, cm2, cm3, cm4, qDeg, cExp, puCount, imCount, q2expCount, productCount, fOf, tOf, imOf, headSize, peAt, productAt, endAt}
 use Rattle.plans.specs.Columns.{recordLimit, recordCount, pairRecords}
 use Rattle.plans.specs.Agreement.{cmCount, lookupThere, productThere, imThere, q2expThere, namesThere, countsAgree}
 use Rattle.map_records.specs.Mapping.{cmLimit}
@@ -75,3 +75,11 @@ module _ (b : List ℕ) (m : ℕ) (h : namesThere b m ≡ true) where
 
   pub c-there : cExp b < m
   c-there = ltb-true _ _ (and-right E _ (and-right C _ after-b))
+
+-- a grand product's num and den stand in the record
+pub product-inside : (b : List ℕ) (i : ℕ) → i < productCount b → productAt b i + 2 ≤ endAt b
+product-inside b i h = go (ltb i (puCount b)) refl
+  where
+    go : (c : Bool) → ltb i (puCount b) ≡ c → cond c (headSize + 4 * i + 2) (peAt b + 2 * (i - puCount b)) + 2 ≤ endAt b
+    go true e = omega (arith, h, ltb-true i (puCount b) e)
+    go false e = omega (arith, h, ltb-false i (puCount b) e)

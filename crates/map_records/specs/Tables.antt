@@ -99,6 +99,13 @@ PartGiven w x table b ss ds cs seen n from ss′ ds′ cs′ seen′ r to =
     (l : List ℕ) (k m : ℕ) (rank : ℕ → ℕ) → Begun b (Tabling w l x k m) rank table ss ds cs seen n (from (tabled (Tabling w l x k m))) →
     State b ss′ ds′ cs′ seen′ r (to (tabled (Tabling w l x k m)))
 
+-- a part that looks at no expression's dimension
+abbrev pub PlainAsked : List ℕ → List ℕ → List ℕ → List ℕ → List ℕ → ℕ → (Pool → Mapping) → Type 0
+PlainAsked b ss ds cs seen n from = Planned b × ((p : Pool) × State b ss ds cs seen n (from p))
+
+abbrev pub PlainGiven : List ℕ → List ℕ → List ℕ → List ℕ → List ℕ → ℕ → (Pool → Mapping) → List ℕ → List ℕ → List ℕ → List ℕ → ℕ → (Pool → Mapping) → Type 0
+PlainGiven b ss ds cs seen n from ss′ ds′ cs′ seen′ r to = (p : Pool) → State b ss ds cs seen n (from p) → State b ss′ ds′ cs′ seen′ r (to p)
+
 -- the first columns
 abbrev pub HeldAsked : List ℕ → List ℕ → List ℕ → List ℕ → ℕ → (Pool → Mapping) → Type 0
 HeldAsked b ss ds cs n from = Planned b × ((p : Pool) × Holds ss ds cs n (from p))

@@ -6,8 +6,8 @@ use mathlib.Core.Bool.{Bool, _||_, cond}
 use mathlib.Core.List.{List, []}
 use lib.ListN.{length, getD, set}
 use lib.Dec.{eqb}
-use Rattle.plans.specs.Plan.{numberLimit, puCount, productCount, Whole}
-use Rattle.plans.specs.Columns.{among, isIm, lookups, products}
+use Rattle.plans.specs.Plan.{numberLimit, puCount, Whole}
+use Rattle.plans.specs.Columns.{among, isIm, lookups}
 
 -- THE TABLE TELLS of each expression number whether it is so
 pub record Tells (so : ℕ → Bool) (table : List ℕ) : Type 0 where

@@ -3,6 +3,10 @@ pub mod Plan
 pub mod Every
 pub mod Columns
 pub mod Among
+pub mod ColumnLaws
 pub mod Counting
 pub mod Agreement
 pub mod Counts
+pub mod Fails
+pub mod Exactly
+pub mod Passed

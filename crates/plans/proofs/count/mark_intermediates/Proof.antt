@@ -1,7 +1,7 @@
 -- `plans::count::mark_intermediates` meets its contract: the table tells the intermediates before i. Assumes nothing.
 use Prim.Native.Nat.{_≤_, _-_}
 use native.Mathlib.Omega.{arith}
-use Rattle.plans.specs.Plan.{Is, imOf, imCount}
+use Rattle.plans.specs.Plan.{imCount}
 use Rattle.plans.specs.Counting.{Tells}
 use Rattle.plans.proofs.Places.{at-same}
 use Rattle.plans.specs.Counts.{imBefore, im-next, im-all}
