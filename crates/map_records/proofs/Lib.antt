@@ -3,3 +3,4 @@ pub mod Dims
 pub mod Parts
 pub mod Columns
 pub mod Pairs
+pub mod Alls

@@ -4,3 +4,4 @@ pub mod Tables
 pub mod Sizes
 pub mod Held
 pub mod Agreed
+pub mod All

@@ -1,4 +1,5 @@
 // The records of a plan: `map`, part by part.
+pub mod all;
 pub mod column;
 pub mod dim;
 pub mod lookups;
