@@ -1,5 +1,5 @@
--- WHEN A PLAN IS REFUSED, as a person would state it, and each test fails EXACTLY WHEN that is so: 1, 9, 3, 16 and 11 of what the record says by itself
--- or of a pool's nodes. Assumes nothing.
+-- WHEN A PLAN IS REFUSED, as a person would state it: 1, 9, 3, 16 and 11, of its bytes and of a pool's nodes. Each test fails EXACTLY WHEN that is so.
+-- Assumes nothing.
 use Prim.Native.Nat.{ℕ, suc, _+_, _-_, _*_, _<_, _≤_}
 use mathlib.Core.Path.{_≡_, refl, sym, _∙_}
 use mathlib.Core.Bool.{Bool, true, false, cond, true≢false}
