@@ -1,10 +1,10 @@
--- WHEN A PLAN IS REFUSED, as a person would state it, and each test fails EXACTLY WHEN that is so: 1, 9, 3, 16 and 11 of what the record says by itself
--- or of a pool's nodes. Assumes nothing.
+-- WHEN A PLAN IS REFUSED, as a person would state it: 1, 9, 3, 16 and 11, of its bytes and of a pool's nodes. Each test fails EXACTLY WHEN that is so.
+-- Assumes nothing.
 use Prim.Native.Nat.{ℕ, suc, _+_, _-_, _*_, _<_, _≤_}
 use mathlib.Core.Path.{_≡_, refl, sym, _∙_}
 use mathlib.Core.Bool.{Bool, true, false, cond, true≢false}
 use mathlib.Core.List.{List}
-use mathlib.Core.Logic.{_⊎_, inl, inr}
+use mathlib.Core.Logic.{_⊎_, inl, inr, _↔_}
 use native.Mathlib.Omega.{arith}
 use native.Mathlib.Numerals.{add-one}
 use lib.ListN.{length}
@@ -40,13 +40,13 @@ module _ (b : List ℕ) where
       back : SomeNotAscending → (i : ℕ) × (i < imCount b - 1) × (imOf b (suc i) ≤ imOf b i)
       back s = (s .0, let h : s .0 + 1 < imCount b = s .1 in omega arith, rw (add-one (s .0)) at (s .2))
 
-  pub exactly-malformed : Fails (isPlan b) (TooShort ⊎ (WrongSize ⊎ SomeNotAscending))
+  pub exactly-malformed : (isPlan b ≡ false) ↔ (TooShort ⊎ (WrongSize ⊎ SomeNotAscending))
   unfolding isPlan
   exactly-malformed = and-fails (most-fails (2 * headSize) (length b)) (and-fails (same-fails (length b) (2 * endAt b)) not-ascending)
 
   -- ── 9 ──────────────────────────────────────────────────────────────────────
   -- `map` would make more than 4,096 records
-  pub exactly-over : Fails (fits b) (recordLimit < recordCount b)
+  pub exactly-over : (fits b ≡ false) ↔ (recordLimit < recordCount b)
   unfolding fits
   exactly-over = most-fails (recordCount b) recordLimit
 
@@ -75,7 +75,7 @@ module _ (b : List ℕ) where
     abbrev pub SomeNameLost : Type 0
     SomeNameLost = SomeLookupLost ⊎ (SomeProductLost ⊎ (SomeImLost ⊎ (SomeQ2expLost ⊎ CExpLost)))
 
-    pub exactly-lost : Fails (namesThere b m) SomeNameLost
+    pub exactly-lost : (namesThere b m ≡ false) ↔ SomeNameLost
     unfolding namesThere
     exactly-lost =
         and-fails (some-fail (λ i. and-fails (below-fails (fOf b i) m) (below-fails (tOf b i) m)) (puCount b))
@@ -88,7 +88,7 @@ module _ (b : List ℕ) where
   abbrev pub BitsOut : Type 0
   BitsOut = (bitsLimit < nBits b) ⊎ ((nBitsExt b < nBits b) ⊎ (nBits b + blowupLimit < nBitsExt b))
 
-  pub exactly-bits : Fails (bitsGood b) BitsOut
+  pub exactly-bits : (bitsGood b ≡ false) ↔ BitsOut
   unfolding bitsGood
   exactly-bits = and-fails (most-fails (nBits b) bitsLimit) (and-fails (most-fails (nBits b) (nBitsExt b)) (most-fails (nBitsExt b) (nBits b + blowupLimit)))
 
@@ -96,7 +96,7 @@ module _ (b : List ℕ) where
   abbrev pub CountsDiffer : Type 0
   CountsDiffer = (cm2 b ≡ 2 * puCount b → ⊥) ⊎ ((cm3 b ≡ puCount b + peCount b + ciCount b + imCount b → ⊥) ⊎ (cm4 b ≡ qDeg b → ⊥))
 
-  pub exactly-counts : Fails (countsAgree b) CountsDiffer
+  pub exactly-counts : (countsAgree b ≡ false) ↔ CountsDiffer
   unfolding countsAgree
   exactly-counts = and-fails (same-fails (cm2 b) (2 * puCount b)) (and-fails third (same-fails (cm4 b) (qDeg b)))
     where
@@ -130,6 +130,6 @@ module _ (w : List ℕ) (n cms qs : ℕ) where
   abbrev pub SomeLeafLost : Type 0
   SomeLeafLost = (i : ℕ) × (i < n) × LeafLost cms qs (kindIn w i) (idIn w i)
 
-  pub exactly-leaf-lost : Fails (leavesThere w n cms qs) SomeLeafLost
+  pub exactly-leaf-lost : (leavesThere w n cms qs ≡ false) ↔ SomeLeafLost
   unfolding leavesThere
   exactly-leaf-lost = some-fail (λ i. leaf-fails cms qs (kindIn w i) (idIn w i)) n
