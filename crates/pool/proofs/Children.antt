@@ -20,9 +20,9 @@ use Rattle.pool.specs.Ranking.{zeros, Later, Leads, State, Follows, Asks
 use Rattle.pool.specs.Laws.Members.{member-each}
 use Rattle.pool.specs.Laws.Tabled.{expression-count}
 use Rattle.pool.proofs.Counts.{zeros-later}
-use Rattle.pool.proofs.Leads.{leads-map, exp-leads, q-leads, q-nowhere, other-nowhere, children-lead, nth-member}
-use Rattle.pool.proofs.Nodes as Nodes
-use Rattle.pool.proofs.Nodes.{child-earlier, count-is, one-child, two-children, three-children, third-count, first-child, second-child, third-child}
+use Rattle.pool.specs.Laws.Leads.{leads-map, exp-leads, q-leads, q-nowhere, other-nowhere, children-lead, nth-member}
+use Rattle.pool.specs.Laws.Nodes as Nodes
+use Rattle.pool.specs.Laws.Nodes.{child-earlier, count-is, one-child, two-children, three-children, third-count, first-child, second-child, third-child}
 use Rattle.pool.proofs.Ranks.{later-refl, later-ranked, later-trans, follow-less, ranked-not, still}
 
 -- an element of a list is what stands there

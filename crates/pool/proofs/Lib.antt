@@ -1,6 +1,4 @@
 pub mod Counts
-pub mod Leads
-pub mod Nodes
 pub mod Ranks
 pub mod Children
 pub mod Late

@@ -22,8 +22,8 @@ use Rattle.pool.specs.Ranking.{cycleFound, countBelow, pending, zeros, L
 use Rattle.pool.specs.Laws.Members.{each-member}
 use Rattle.pool.specs.Laws.Tabled.{root-at}
 use Rattle.pool.proofs.Counts.{zeros-set, count-same, count-less}
-use Rattle.pool.proofs.Leads.{leads-map}
-use Rattle.pool.proofs.Nodes as Nodes
+use Rattle.pool.specs.Laws.Leads.{leads-map}
+use Rattle.pool.specs.Laws.Nodes as Nodes
 
 -- the table of ranks with one entry changed
 module _ (s : List ℕ) (e v : ℕ) (h : e < length s) where

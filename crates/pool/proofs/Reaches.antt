@@ -25,8 +25,8 @@ use Rattle.pool.specs.Laws.Members.{member-each}
 use Rattle.pool.specs.Laws.Tabled.{expression-count, root-at}
 use Rattle.pool.specs.Laws.Cycles.{Reaches}
 use Rattle.pool.proofs.Counts.{count-less}
-use Rattle.pool.proofs.Leads.{LeadsTo, leads-map}
-use Rattle.pool.proofs.Nodes.{source, root-inside, leads-there}
+use Rattle.pool.specs.Laws.Leads.{LeadsTo, leads-map}
+use Rattle.pool.specs.Laws.Nodes.{source, root-inside, leads-there}
 use Rattle.pool.proofs.Ranks.{at-same, at-other}
 use Rattle.pool.proofs.AllRanks.{zero-at}
 use Rattle.pool.proofs.Marks.{least-none, least-same, least-more, LedBy, nearest-is, Led, After, marked-is}

@@ -23,8 +23,8 @@ use Rattle.pool.specs.Ranking.{Tabling}
 use Rattle.pool.specs.Cycles.{leadBy, leadIn, reach, mark, nearer, marked, nearest, Spreads, LeafAsked, LeafGiven, Standing}
 use Rattle.pool.specs.Laws.Trees.{leavesOf, leaves-are, leaf-is}
 use Rattle.pool.proofs.Children.{nth-get, nth-past}
-use Rattle.pool.proofs.Leads.{leads-nowhere, no-children, some-children}
-use Rattle.pool.proofs.Nodes as Nodes
+use Rattle.pool.specs.Laws.Leads.{lead-is, no-children, some-children}
+use Rattle.pool.specs.Laws.Nodes as Nodes
 use Rattle.pool.proofs.Marks.{spreads-none, spreads-append}
 
 -- ── where a leaf leads ───────────────────────────────────────────────────────
@@ -41,26 +41,6 @@ module _ (w table : List ℕ) (i : ℕ) {k : ℕ} (ke : k ≡ kindIn w i) where
 
   pub no-lead : (k ≡ kind.exp → ⊥) → (k ≡ kind.q → ⊥) → none ≡ leadIn w table i
   no-lead n m = rw (← ke, ne-eqb k kind.exp n, ne-eqb k kind.q m)
-
--- the leaf of a node leads where its kind and id say
-lead-is : (table : List ℕ) (x : Node) (n : ℕ) → leadsTo table (leafOf x at n) ≡ leadBy table (x .kind) (x .id)
-lead-is table x n = go (eqb (x .kind) kind.exp) refl
-  where
-    exp-leaf : x .kind ≡ kind.exp → leafOf x ≡ Leaf.exp (x .id) (x .next)
-    exp-leaf h = rw h
-
-    q-leaf : x .kind ≡ kind.q → leafOf x ≡ Leaf.cell RowKind.q (x .id) (x .next)
-    q-leaf h = rw h
-
-    other : (x .kind ≡ kind.exp → ⊥) → (c : Bool) → eqb (x .kind) kind.q ≡ c → leadsTo table (leafOf x at n) ≡ cond c (nth table (x .id)) none
-    other a true e = ap (λ l. leadsTo table (l at n)) (q-leaf (eqb-true _ _ e))
-    other a false e = leads-nowhere table x n a (eqb-false _ _ e)
-
-    go :
-        (c : Bool) → eqb (x .kind) kind.exp ≡ c →
-        leadsTo table (leafOf x at n) ≡ cond c (some (x .id)) (cond (eqb (x .kind) kind.q) (nth table (x .id)) none)
-    go true e = ap (λ l. leadsTo table (l at n)) (exp-leaf (eqb-true _ _ e))
-    go false e = other (eqb-false _ _ e) (eqb (x .kind) kind.q) refl
 
 -- ── a leaf's mark ────────────────────────────────────────────────────────────
 pub reach-new : (s : List ℕ) (v : ℕ) → getD s v 0 ≡ 0 → set s v 1 ≡ reach s v

@@ -7,3 +7,5 @@ pub mod Cycles
 pub mod Forest
 pub mod Tabled
 pub mod Names
+pub mod Leads
+pub mod Nodes

@@ -22,7 +22,7 @@ const REACHED: u8 = 1;
 const FOLLOWED: u8 = 2;
 
 // The expression that a leaf leads to.
-fn lead(nodes: &[u64; NODE_WORDS], table: &[u64], i: usize) -> Found
+pub fn lead(nodes: &[u64; NODE_WORDS], table: &[u64], i: usize) -> Found
     requires { ⌜ i < nodeLimit ⌝ }
     ensures { λ r. ⌜ foundAt r ≡ leadIn (now (nodes .entry)) (now (table .entry)) i ⌝ }
 {

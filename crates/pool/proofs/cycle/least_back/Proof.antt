@@ -7,7 +7,7 @@ use native.Mathlib.Omega.{arith}
 use borrow.Author.Needs.{needs}
 use Rattle.pool.specs.Shapes.{foundAt}
 use Rattle.pool.specs.Ranking.{countBelow, pending, Tabling, Starts}
-use Rattle.pool.proofs.Nodes.{root-there}
+use Rattle.pool.specs.Laws.Nodes.{root-there}
 use Rattle.pool.proofs.Reaches.{found-one, none-one, Reach, begin, round, round-less, finish}
 use Rattle.pool.proofs.cycle.least_back.Statement.{statement}
 use Rattle.pool.proofs.cycle.least_back.Tie as tie

@@ -15,7 +15,7 @@ use Rattle.pool.specs.Shaped.{Shaped}
 use Rattle.pool.specs.Tabled.{Tables, tabled}
 use Rattle.pool.specs.Laws.Members.{member-each}
 use Rattle.pool.specs.Laws.Tabled.{node-count, expression-count, node-at, root-at}
-use Rattle.pool.proofs.Leads.{LeadsTo, all-there, children-one, children-two, children-three, counts-up-to-three}
+use Rattle.pool.specs.Laws.Leads.{LeadsTo, all-there, children-one, children-two, children-three, counts-up-to-three}
 
 module _ (t : Tables) (shaped : Shaped (tabled t)) where
   abbrev p : Pool

@@ -9,7 +9,7 @@ use mathlib.Core.Logic.{inl, inr, _↔_}
 use native.Mathlib.Omega.{arith}
 use lib.ListN.{length}
 use lib.Dec.{eqb}
-use borrow.Author.Tests.{ne-eqb}
+use borrow.Author.Tests.{ne-eqb, eqb-true, eqb-false}
 use Rattle.meaning.specs.Trees.{RowKind, Leaf, Expr, nth, Placed, _at_, leaves, Each, Member}
 use Rattle.meaning.specs.Laws.Tests.{each-map}
 use Rattle.frames.specs.declared.node.Node.{Node}
@@ -19,6 +19,7 @@ use Rattle.pool.specs.Pool.{Pool, node, children}
 use Rattle.pool.specs.Trees.{leafOf, Class, leafy, class, tree}
 use Rattle.pool.specs.Shaped.{Shaped}
 use Rattle.pool.specs.Admission.{leadsTo}
+use Rattle.pool.specs.Cycles.{leadBy}
 use Rattle.pool.specs.Laws.Trees.{arity, arity-is, class-leafy, leaves-under, leaf-is}
 use Rattle.pool.specs.Laws.Walks.{OfNode, of-node}
 use Rattle.pool.specs.Laws.Forest.{exp-node}
@@ -48,6 +49,26 @@ leads-nowhere table x n a b =
   where
     Q : Leaf → Type 0
     Q l = leadsTo table (l at n) ≡ none
+
+-- the leaf of a node leads where its kind and id say
+pub lead-is : (table : List ℕ) (x : Node) (n : ℕ) → leadsTo table (leafOf x at n) ≡ leadBy table (x .kind) (x .id)
+lead-is table x n = go (eqb (x .kind) kind.exp) refl
+  where
+    exp-leaf : x .kind ≡ kind.exp → leafOf x ≡ Leaf.exp (x .id) (x .next)
+    exp-leaf h = rw h
+
+    q-leaf : x .kind ≡ kind.q → leafOf x ≡ Leaf.cell RowKind.q (x .id) (x .next)
+    q-leaf h = rw h
+
+    other : (x .kind ≡ kind.exp → ⊥) → (c : Bool) → eqb (x .kind) kind.q ≡ c → leadsTo table (leafOf x at n) ≡ cond c (nth table (x .id)) none
+    other a true e = ap (λ l. leadsTo table (l at n)) (q-leaf (eqb-true _ _ e))
+    other a false e = leads-nowhere table x n a (eqb-false _ _ e)
+
+    go :
+        (c : Bool) → eqb (x .kind) kind.exp ≡ c →
+        leadsTo table (leafOf x at n) ≡ cond c (some (x .id)) (cond (eqb (x .kind) kind.q) (nth table (x .id)) none)
+    go true e = ap (λ l. leadsTo table (l at n)) (exp-leaf (eqb-true _ _ e))
+    go false e = other (eqb-false _ _ e) (eqb (x .kind) kind.q) refl
 
 -- a kind that has no children in the table is a leaf's, and one that has some is not
 pub no-children : (k : ℕ) → childCount k ≡ 0 → class k ≡ leafy

@@ -1,0 +1,4 @@
+-- The definitions that the contracts cite, and the laws on them that other crates use.
+pub mod Dimension
+pub mod Known
+pub mod Laws

@@ -1,0 +1,20 @@
+-- `plans::count::ask` meets its contract. Assumes nothing.
+use Rattle.plans.specs.Counts.{asked-seen, asked-new}
+use borrow.Author.Needs.{needs}
+use Rattle.plans.proofs.count.ask.Statement.{statement}
+use Rattle.plans.proofs.count.ask.Tie as tie
+
+element-copy-out-if1 : tie.Need-element-copy-out-if1
+element-copy-out-if1 c = search needs
+
+returns : tie.Need-returns
+returns c = asked-seen (c .before .before .args .seen .now) (c .before .before .args .e) (c .if1 .taken)
+
+element-write-seen : tie.Need-element-write-seen
+element-write-seen c = search needs
+
+returns-2 : tie.Need-returns-2
+returns-2 c = asked-new (c .before .before .args .seen .now) (c .before .before .args .e) (c .if1 .left)
+
+pub ask-spec : {M : Type 1} → statement M
+ask-spec = tie.close (tie.spec element-copy-out-if1 returns element-write-seen returns-2)
