@@ -4,3 +4,4 @@ pub mod Sources
 pub mod Steps
 pub mod Passes
 pub mod Segments
+pub mod Refused

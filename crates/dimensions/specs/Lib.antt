@@ -4,4 +4,5 @@ pub mod Dimensions
 pub mod Steps
 pub mod Answers
 pub mod Laws
+pub mod Conditions
 pub mod Exactly
