@@ -6,3 +6,4 @@ pub mod Answers
 pub mod Laws
 pub mod Conditions
 pub mod Exactly
+pub mod Examples
