@@ -1,0 +1,120 @@
+// A pass over a list, record by record: one that decides and one that writes.
+use crate::source::TEMPORARIES;
+use crate::source::Why;
+use crate::step::Stepped;
+use crate::step::note_step;
+use crate::step::step_with;
+use kinds::step::STEP_SIZE;
+use kinds::step::Step;
+use kinds::step::nth_step;
+use kinds::step::put_nth_step;
+ghost use mathlib.Core.Path.{_≡_};
+ghost use Prim.Native.Nat.{_+_, _*_, _≤_};
+ghost use lib.ListN.{length};
+ghost use Rattle.kinds.specs.Steps.{stepSize, stepAt};
+ghost use Rattle.lists.specs.Records.{recordsIn};
+ghost use Rattle.dimensions.specs.Answers.{lent, decidedSays, stepTo, listTo, WritesStep, WritesList};
+
+pub enum Decided {
+    Done,
+    Refused(Why),
+}
+
+fn decide_step(
+    record_dims: &[u16],
+    cm_2ns: &[u16],
+    qs: &[u16],
+    dim_x: u16,
+    temporaries: &mut [u16; TEMPORARIES],
+    s: Step,
+) -> Decided
+    ensures { λ r. ⌜ decidedSays r (now (temporaries .exit)) ≡ stepTo (lent (now (record_dims .entry)) (now («cm_2ns» .entry)) (now (qs .entry)) «dim_x») (now (temporaries .entry)) s ⌝ }
+{
+    match step_with(record_dims, cm_2ns, qs, dim_x, temporaries, s) {
+        Stepped::Refused(w) => Decided::Refused(w),
+        Stepped::Sized(y) => {
+            note_step(temporaries, y);
+            Decided::Done
+        }
+    }
+}
+
+// Has every step of a list its dimensions? What temporaries hold is carried on; after a refusal it is of no use.
+pub fn decide_list(
+    record_dims: &[u16],
+    cm_2ns: &[u16],
+    qs: &[u16],
+    dim_x: u16,
+    temporaries: &mut [u16; TEMPORARIES],
+    list: &[u8],
+) -> Decided
+    ensures { λ r. ⌜ decidedSays r (now (temporaries .exit)) ≡ listTo (lent (now (record_dims .entry)) (now («cm_2ns» .entry)) (now (qs .entry)) «dim_x») (now (temporaries .entry)) (recordsIn (now (list .entry))) ⌝ }
+{
+    let count = list.len() / STEP_SIZE;
+    let mut k: usize = 0;
+    while k < count {
+        match decide_step(
+            record_dims,
+            cm_2ns,
+            qs,
+            dim_x,
+            temporaries,
+            nth_step(list, k),
+        ) {
+            Decided::Refused(w) => {
+                return Decided::Refused(w);
+            }
+            Decided::Done => {}
+        }
+        k += 1;
+    }
+    Decided::Done
+}
+
+// Writes a step that was decided.
+fn write_step(
+    record_dims: &[u16],
+    cm_2ns: &[u16],
+    qs: &[u16],
+    dim_x: u16,
+    temporaries: &mut [u16; TEMPORARIES],
+    list: &mut [u8],
+    k: usize,
+)
+    requires { ⌜ stepSize * k + stepSize ≤ length (now list) ⌝ }
+    ensures { λ _. ⌜ WritesStep (lent (now (record_dims .entry)) (now («cm_2ns» .entry)) (now (qs .entry)) «dim_x») (now (temporaries .entry)) (now (temporaries .exit)) (now (list .entry)) (now (list .exit)) k ⌝ }
+{
+    match step_with(
+        record_dims,
+        cm_2ns,
+        qs,
+        dim_x,
+        temporaries,
+        nth_step(list, k),
+    ) {
+        Stepped::Refused(_) => {}
+        Stepped::Sized(y) => {
+            put_nth_step(list, k, y);
+            note_step(temporaries, y);
+        }
+    }
+}
+
+// Writes a list that was decided.
+pub fn write_list(
+    record_dims: &[u16],
+    cm_2ns: &[u16],
+    qs: &[u16],
+    dim_x: u16,
+    temporaries: &mut [u16; TEMPORARIES],
+    list: &mut [u8],
+)
+    ensures { λ _. ⌜ WritesList (lent (now (record_dims .entry)) (now («cm_2ns» .entry)) (now (qs .entry)) «dim_x») (now (temporaries .entry)) (now (temporaries .exit)) (now (list .entry)) (now (list .exit)) ⌝ }
+{
+    let count = list.len() / STEP_SIZE;
+    let mut k: usize = 0;
+    while k < count {
+        write_step(record_dims, cm_2ns, qs, dim_x, temporaries, list, k);
+        k += 1;
+    }
+}

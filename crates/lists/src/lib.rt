@@ -1,0 +1,2 @@
+// Lists of step records that a caller lends: are they well formed?
+pub mod records;
