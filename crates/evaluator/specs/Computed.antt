@@ -41,7 +41,7 @@ use Rattle.output.specs.Whole.{whole-says}
 use Rattle.evaluator_cells.specs.Keyed.{valuedSize}
 use Rattle.evaluator_cells.specs.Given.{lent, given, goodValues}
 use Rattle.evaluator_cells.specs.Literals.{broughtAt}
-use Rattle.evaluator_step.specs.Decoding.{goodList}
+use Rattle.lists.specs.Records.{goodList}
 use Rattle.evaluator_run.specs.Evaluation.{written, Valued, valuedBy, valuesBytes, wellFormed, ruling, outAfter}
 use Rattle.evaluator.specs.Answer.{answerSays, EvaluationIs}
 use Rattle.evaluator.specs.Exactly.{fits}

@@ -22,8 +22,9 @@ use Rattle.meaning.specs.Running.{Store, exec, run}
 use Rattle.meaning.specs.Laws.Tests.{bind-some}
 use Rattle.evaluator_cells.specs.Given.{Lent, given, sectionCount, startOf, goodValues}
 use Rattle.evaluator_run.specs.Evaluation.{wellFormed}
-use Rattle.evaluator_step.specs.Decoding.{recordCount, recordsIn, countedIn, goodReference, goodReferences, goodRecord, goodRecords, goodList, stepFrom, stepsFrom}
-use Rattle.evaluator_run.specs.Laws.Records.{good-more, bad-later, false-right}
+use Rattle.lists.specs.Records.{recordCount, recordsIn, countedIn, goodReference, goodReferences, goodRecord, goodRecords, goodList}
+use Rattle.lists.specs.Decoding.{stepFrom, stepsFrom}
+use Rattle.lists.specs.Laws.{good-more, bad-later, false-right}
 
 -- ── malformed ────────────────────────────────────────────────────────────────
 -- an unknown kind, or a prime other than 0 and 1

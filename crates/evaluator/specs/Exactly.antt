@@ -29,7 +29,8 @@ use Rattle.evaluator_cells.specs.Cells.{cellLimit}
 use Rattle.evaluator_cells.specs.Keyed.{valuedSize}
 use Rattle.evaluator_cells.specs.Given.{Lent, lent, given}
 use Rattle.evaluator_cells.specs.Literals.{broughtAt}
-use Rattle.evaluator_step.specs.Decoding.{recordsIn, stepsFrom}
+use Rattle.lists.specs.Records.{recordsIn}
+use Rattle.lists.specs.Decoding.{stepsFrom}
 use Rattle.evaluator_run.specs.Evaluation.{written, Valued, valuedBy, computed, fitting, ruled, wellFormed, ruling, outAfter}
 use Rattle.evaluator_run.specs.Laws.Computes.{valued-length}
 use Rattle.evaluator.specs.Answer.{Judged, Evaluates, answerSays, Tells, EvaluationIs}

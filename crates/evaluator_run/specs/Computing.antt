@@ -15,7 +15,7 @@ use Rattle.evaluator_cells.specs.Literals.{Reduced, NumbersOf}
 use Rattle.evaluator_cells.specs.Before.{Lends}
 use Rattle.evaluator_cells.specs.Cells.{cellLimit}
 use Rattle.evaluator_cells.specs.Keyed.{valuedSize, keyedTo, keyLimit}
-use Rattle.evaluator_step.specs.Decoding.{goodList}
+use Rattle.lists.specs.Records.{goodList}
 use Rattle.evaluator_run.specs.Evaluation.{ruling, outAfter}
 use Rattle.evaluator_run.specs.declared.compute.Computed.{Computed}
 use Rattle.evaluator_run.specs.declared.compute.Computed.the-variants as computed

@@ -21,7 +21,8 @@ use Rattle.output.specs.Output.{u64Bytes}
 use Rattle.evaluator_cells.specs.Cells.{cellLimit}
 use Rattle.evaluator_cells.specs.Keyed.{valuedSize}
 use Rattle.evaluator_cells.specs.Given.{Lent, given, goodValues}
-use Rattle.evaluator_step.specs.Decoding.{recordsIn, goodList, stepsFrom}
+use Rattle.lists.specs.Records.{recordsIn, goodList}
+use Rattle.lists.specs.Decoding.{stepsFrom}
 
 -- ---- the cells written
 

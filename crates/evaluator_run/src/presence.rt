@@ -14,7 +14,7 @@ use kinds::step::nth_step;
 ghost use mathlib.Core.Path.{_≡_};
 ghost use lib.ListN.{replicate};
 ghost use Rattle.evaluator_cells.specs.Given.{lent};
-ghost use Rattle.evaluator_step.specs.Decoding.{recordsIn};
+ghost use Rattle.lists.specs.Records.{recordsIn};
 ghost use Rattle.evaluator_cells.specs.Before.{Lends};
 ghost use Rattle.evaluator_step.specs.Machine.{valueBy};
 ghost use Rattle.evaluator_run.specs.Presence.{isKnown, classNo, SlotIs, slotCount, hasIn, markAs, markTo, marksTo, marksAre};

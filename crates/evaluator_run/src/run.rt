@@ -8,7 +8,7 @@ use kinds::step::STEP_SIZE;
 use kinds::step::nth_step;
 ghost use mathlib.Core.Path.{_≡_};
 ghost use Rattle.evaluator_cells.specs.Given.{lent};
-ghost use Rattle.evaluator_step.specs.Decoding.{recordsIn};
+ghost use Rattle.lists.specs.Records.{recordsIn};
 ghost use Rattle.evaluator_step.specs.Machine.{table, StepAsks, runTo, ranTo};
 
 // From a table of no cells.

@@ -17,7 +17,8 @@ use Rattle.meaning.specs.Running.{either, apply}
 use Rattle.evaluator_cells.specs.Given.{Lent}
 use Rattle.evaluator_cells.specs.Literals.{Reduced}
 use Rattle.evaluator_cells.specs.Before.{known, beforeIn, Lends}
-use Rattle.evaluator_step.specs.Decoding.{opFrom, countedIn}
+use Rattle.lists.specs.Records.{countedIn}
+use Rattle.lists.specs.Decoding.{opFrom}
 use Rattle.evaluator_cells.specs.Cells.{cellLimit, placeNo, idIn, writableNo, indexOf, Chained}
 use Rattle.evaluator_cells.specs.declared.cells.Found.{Found}
 use Rattle.evaluator_cells.specs.declared.cells.Found.the-variants as found

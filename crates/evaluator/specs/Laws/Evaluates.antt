@@ -24,7 +24,7 @@ use Rattle.pool.specs.Ranking.{Tabling}
 use Rattle.pool.specs.Tabled.{tabled}
 use Rattle.requests.specs.Whole.{poolIn}
 use Rattle.requests.specs.Reads.{ReadInto, read-is, pool-is}
-use Rattle.evaluator_step.specs.Decoding.{goodList}
+use Rattle.lists.specs.Records.{goodList}
 use Rattle.evaluator_cells.specs.Numbers.{Modulus}
 use Rattle.evaluator_cells.specs.Given.{lent, goodValues}
 use Rattle.evaluator_cells.specs.Literals.{broughtAt, NumbersAre, NumbersOf, FillAsks}

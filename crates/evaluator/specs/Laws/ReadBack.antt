@@ -24,7 +24,8 @@ use Rattle.starkinfo_codegen.specs.Encoding.{refOf, sourceOf, stepRecord, recor
 use Rattle.output.specs.Shown.{IsCell, RefSays, StepSays}
 use Rattle.pool.specs.Pool.{Pool}
 use Rattle.evaluator_cells.specs.Literals.{broughtAt}
-use Rattle.evaluator_step.specs.Decoding.{recordCount, recordsIn, goodReference, goodReferences, goodRecord, goodRecords, goodList, kindFrom, opFrom, refFrom, refsFrom, stepFrom, stepsFrom}
+use Rattle.lists.specs.Records.{recordCount, recordsIn, goodReference, goodReferences, goodRecord, goodRecords, goodList}
+use Rattle.lists.specs.Decoding.{kindFrom, opFrom, refFrom, refsFrom, stepFrom, stepsFrom}
 
 -- ---- kinds and steps
 

@@ -25,7 +25,8 @@ use Rattle.meaning.specs.Running.{Store, empty, run}
 use Rattle.meaning.specs.Laws.Tests.{and-left, and-right, each-join}
 use Rattle.evaluator_cells.specs.Literals.{NumbersOf}
 use Rattle.evaluator_cells.specs.Given.{Lent, lent, given}
-use Rattle.evaluator_step.specs.Decoding.{recordCount, recordsIn, goodRecord, goodRecords, goodList, stepsFrom}
+use Rattle.lists.specs.Records.{recordCount, recordsIn, goodRecord, goodRecords, goodList}
+use Rattle.lists.specs.Decoding.{stepsFrom}
 use Rattle.evaluator_cells.specs.Cells.{cellLimit, idLimit, keyNo}
 use Rattle.evaluator_run.specs.Evaluation as evaluation
 use Rattle.evaluator_run.specs.Evaluation.{written, Valued, heldIn, valuedBy, valuedBytes, valuesBytes, fitting, ruled, outAfter, ruling}
@@ -35,7 +36,7 @@ use Rattle.evaluator_run.specs.Presence.{isKnown, slotCount, marksTo}
 use Rattle.evaluator_run.specs.Computing.{computedSays, PutAsks, PutGiven, ComputeAsks, ComputedIs, ComputeGiven}
 use Rattle.evaluator_cells.specs.Laws.Keys.{Small, keyOf, key-small}
 use Rattle.evaluator_cells.specs.Laws.Chains.{chained-none}
-use Rattle.evaluator_run.specs.Laws.Records.{good-append}
+use Rattle.lists.specs.Laws.{good-append}
 use Rattle.evaluator_run.specs.Laws.Holding.{Held, held-none, nth-there}
 use Rattle.evaluator_run.specs.Laws.Simulation.{Narrow, NarrowStep, Fine, Simulated, simulated}
 use Rattle.evaluator_run.specs.Laws.Presence.{present-none, MarkedAll, marked-all}

@@ -16,7 +16,7 @@ use Rattle.kinds.specs.Steps.{stepSize, stepAt, stepsOf, steps-none, steps-more
 use Rattle.kinds.specs.declared.reference.Reference.{Reference}
 use Rattle.kinds.specs.declared.step.Step as bytes
 use Rattle.evaluator_cells.specs.Given.{Lent}
-use Rattle.evaluator_step.specs.Decoding.{recordCount, recordsIn}
+use Rattle.lists.specs.Records.{recordCount, recordsIn}
 use Rattle.evaluator_cells.specs.Cells.{idLimit, writableNo}
 use Rattle.evaluator_cells.specs.Before.{known, beforeIn}
 use Rattle.evaluator_step.specs.Machine.{valueBy, readCount}

@@ -25,7 +25,8 @@ use Rattle.meaning.specs.Running.{Store, empty, writable, either, read, readAll
 use Rattle.meaning.specs.Laws.Cells.{same-eq, same-refl}
 use Rattle.meaning.specs.Laws.Tests.{and-left, and-right, true-false}
 use Rattle.evaluator_cells.specs.Given.{Lent, given}
-use Rattle.evaluator_step.specs.Decoding.{countedIn, goodReference, goodReferences, goodRecord, kindFrom, opFrom, refFrom, refsFrom, stepFrom, stepsFrom}
+use Rattle.lists.specs.Records.{countedIn, goodReference, goodReferences, goodRecord}
+use Rattle.lists.specs.Decoding.{kindFrom, opFrom, refFrom, refsFrom, stepFrom, stepsFrom}
 use Rattle.evaluator_cells.specs.Cells.{writableNo}
 use Rattle.evaluator_cells.specs.Before.{beforeIn}
 use Rattle.evaluator_step.specs.Machine.{readsBy, valueBy}

@@ -9,7 +9,7 @@ use lib.ListN.{drop}
 use Rattle.kinds.specs.Steps.{stepSize, stepAt, stepsOf, steps-none, steps-more, steps-split}
 use Rattle.kinds.specs.declared.step.Step as bytes
 use Rattle.evaluator_cells.specs.Given.{Lent}
-use Rattle.evaluator_step.specs.Decoding.{recordCount, recordsIn}
+use Rattle.lists.specs.Records.{recordCount, recordsIn}
 use Rattle.evaluator_step.specs.Machine.{Table, table, Outcome, next, noRule, over, after, stepTo, runTo, ranTo}
 use Rattle.evaluator_step.specs.declared.step.Ran.{Ran}
 use Rattle.evaluator_step.specs.declared.step.Ran.the-variants as ran

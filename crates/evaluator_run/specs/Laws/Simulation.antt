@@ -22,7 +22,8 @@ use Rattle.meaning.specs.Running.{Store, writable, either, read, readAll, compu
 use Rattle.meaning.specs.Laws.Tests.{and-left, and-right}
 use Rattle.evaluator_cells.specs.Literals.{Reduced, NumbersOf}
 use Rattle.evaluator_cells.specs.Given.{Lent, given}
-use Rattle.evaluator_step.specs.Decoding.{countedIn, goodReference, goodReferences, goodRecord, kindFrom, opFrom, refFrom, refsFrom, stepFrom, stepsFrom}
+use Rattle.lists.specs.Records.{countedIn, goodReference, goodReferences, goodRecord}
+use Rattle.lists.specs.Decoding.{kindFrom, opFrom, refFrom, refsFrom, stepFrom, stepsFrom}
 use Rattle.evaluator_cells.specs.Cells.{cellLimit, idLimit, placeNo, writableNo}
 use Rattle.evaluator_run.specs.Evaluation.{isAmong, adding, writing, writtenAfter}
 use Rattle.evaluator_cells.specs.Numbers.{Modulus}

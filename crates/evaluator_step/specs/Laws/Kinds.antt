@@ -12,7 +12,7 @@ use Rattle.kinds.specs.Kinds.{isReference, isLeaf}
 use Rattle.kinds.specs.Range.{within, within-above, true-over}
 use Rattle.meaning.specs.Steps.{Kind, kindNo}
 use Rattle.meaning.specs.Laws.Tests.{true-false}
-use Rattle.evaluator_step.specs.Decoding.{kindFrom}
+use Rattle.lists.specs.Decoding.{kindFrom}
 
 abbrev isBack : Option Kind → ℕ → Bool
 isBack none b = false

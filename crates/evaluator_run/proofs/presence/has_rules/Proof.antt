@@ -9,9 +9,9 @@ use native.Mathlib.Omega.{arith}
 use lib.ListN.{replicate}
 use Rattle.kinds.specs.Steps.{stepsOf}
 use Rattle.evaluator_cells.specs.Given.{lent}
-use Rattle.evaluator_step.specs.Decoding.{recordCount}
+use Rattle.lists.specs.Records.{recordCount}
 use Rattle.evaluator_run.specs.Presence.{slotCount, marksTo}
-use Rattle.evaluator_run.specs.Laws.Records.{record-in}
+use Rattle.lists.specs.Laws.{record-in}
 use Rattle.evaluator_run.specs.Laws.Marks.{marks-begin, marks-next, marks-stop, marks-end}
 use Rattle.evaluator_run.proofs.presence.has_rules.Statement.{statement}
 use Rattle.evaluator_run.proofs.presence.has_rules.Tie as tie

@@ -6,9 +6,9 @@ use mathlib.Core.Path.{_≡_, sym}
 use native.Mathlib.Omega.{arith}
 use Rattle.kinds.specs.Steps.{stepsOf}
 use Rattle.evaluator_cells.specs.Given.{lent}
-use Rattle.evaluator_step.specs.Decoding.{recordCount}
+use Rattle.lists.specs.Records.{recordCount}
 use Rattle.evaluator_step.specs.Machine.{table, Kept, next, runTo}
-use Rattle.evaluator_run.specs.Laws.Records.{record-in}
+use Rattle.lists.specs.Laws.{record-in}
 use Rattle.evaluator_step.specs.Laws.Steps.{kept-step}
 use Rattle.evaluator_run.specs.Laws.Runs.{told-no-rule, told-over, told-cells, run-begins, run-goes-on, run-refused, run-over, run-ends}
 use Rattle.evaluator_run.proofs.run.run_list.Statement.{statement}

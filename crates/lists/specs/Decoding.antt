@@ -1,57 +1,18 @@
--- WHAT A RECORD SAYS: the step of meaning that a byte record stands for, with the literals of its numbers from the nodes of a pool.
--- A record is malformed (1) where it counts more than three sources, or where its destination or one of the sources that it counts has an unknown
--- kind or a prime other than 0 and 1. A record that is well formed says a step unless its step byte is unknown (10).
+-- WHAT A RECORD SAYS: the step of meaning that a byte record stands for, with the literal of each node that brought a number.
 -- Assumes nothing: these are definitions.
-use Prim.Native.Nat.{ℕ, _/_, _%_}
-use mathlib.Core.Bool.{Bool, true, cond, _&&_}
+use Prim.Native.Nat.{ℕ}
+use mathlib.Core.Bool.{cond}
 use mathlib.Core.Option.{Option, none, some}
 use mathlib.Core.List.{List, [], _∷_}
-use lib.ListN.{length}
-use lib.Dec.{eqb, leb}
+use lib.Dec.{eqb}
 use Rattle.kinds.specs.KindBytes as kind
 use Rattle.kinds.specs.OpBytes as op
-use Rattle.kinds.specs.Kinds.{isReference}
-use Rattle.kinds.specs.Steps.{stepSize, stepsOf}
 use Rattle.kinds.specs.declared.reference.Reference.{Reference}
 use Rattle.kinds.specs.declared.step.Step as bytes
-use Rattle.meaning.specs.Trees.{Lit, RowKind, FlatKind, XKind, upTo}
+use Rattle.meaning.specs.Trees.{Lit, RowKind, FlatKind, XKind}
 use Rattle.meaning.specs.Values.{bind}
 use Rattle.meaning.specs.Steps.{BareKind, Kind, Cell, Ref, StepOp, Step, step}
-
--- ---- the records of a list
-
--- how many whole records there are
-abbrev pub recordCount : List ℕ → ℕ
-recordCount l = length l / stepSize
-
-abbrev pub recordsIn : List ℕ → List bytes.Step
-recordsIn l = stepsOf l (recordCount l)
-
--- the sources that a record counts
-abbrev pub countedIn : bytes.Step → List Reference
-countedIn x = upTo (x .count) (x .s0 ∷ x .s1 ∷ x .s2 ∷ [])
-
--- ---- well formed
-
-unfoldable pub goodReference : Reference → Bool
-goodReference r = isReference (r .kind) && leb (r .prime) 1
-
-unfoldable pub goodReferences : List Reference → Bool
-goodReferences [] = true
-goodReferences (r ∷ rs) = goodReference r && goodReferences rs
-
-unfoldable pub goodRecord : bytes.Step → Bool
-goodRecord x = leb (x .count) 3 && (goodReference (x .dest) && goodReferences (countedIn x))
-
-unfoldable pub goodRecords : List bytes.Step → Bool
-goodRecords [] = true
-goodRecords (x ∷ xs) = goodRecord x && goodRecords xs
-
--- no record is cut short, and each is well formed
-unfoldable pub goodList : List ℕ → Bool
-goodList l = eqb (length l % stepSize) 0 && goodRecords (recordsIn l)
-
--- ---- as steps
+use Rattle.lists.specs.Records.{countedIn}
 
 -- document 01's kind bytes, but number's
 unfoldable pub kindFrom : ℕ → Option Kind
@@ -85,12 +46,11 @@ opFrom b =
     (cond (eqb b op.muladd) (some StepOp.muladd)
     (cond (eqb b op.copy) (some StepOp.copy) none))))
 
--- L n: the literal that node n brings
-module _ (L : ℕ → Lit) where
+module _ (literal : ℕ → Lit) where
   -- a number: the literal of the node that brought it; any other: a cell
   unfoldable pub refFrom : Reference → Option Ref
   refFrom r =
-      cond (eqb (r .kind) kind.number) (some (Ref.number (L (r .extra)) (r .extra)))
+      cond (eqb (r .kind) kind.number) (some (Ref.number (literal (r .extra)) (r .extra)))
       (bind (kindFrom (r .kind)) (λ k. some (Ref.var (Cell.cell k (r .id) (r .prime)))))
 
   unfoldable pub refsFrom : List Reference → Option (List Ref)
@@ -98,10 +58,9 @@ module _ (L : ℕ → Lit) where
   refsFrom (r ∷ rs) = bind (refFrom r) (λ x. bind (refsFrom rs) (λ xs. some (x ∷ xs)))
 
   unfoldable pub stepFrom : bytes.Step → Option Step
-  stepFrom x =
-      bind (opFrom (x .op)) (λ o. bind (refFrom (x .dest)) (λ d. bind (refsFrom (countedIn x)) (λ rs. some (step o d rs))))
+  stepFrom x = bind (opFrom (x .op)) (λ o. bind (refFrom (x .dest)) (λ d. bind (refsFrom (countedIn x)) (λ rs. some (step o d rs))))
 
-  -- THE STEPS OF A LIST, where each has a step byte that is known
+  -- THE STEPS OF RECORDS, where each has a step byte that is known
   unfoldable pub stepsFrom : List bytes.Step → Option (List Step)
   stepsFrom [] = some []
   stepsFrom (x ∷ xs) = bind (stepFrom x) (λ s. bind (stepsFrom xs) (λ ss. some (s ∷ ss)))
