@@ -16,7 +16,7 @@ use Rattle.map_records.specs.Mapping.{Mapping, pol, cm1s, lookups, produ
 use Rattle.map_records.specs.Tables.{Holds, State, Planned, Ready, DimAsks, Begun, ImAsks, QuotientAsks}
 use Rattle.map_records.specs.All.{AllAsks, Mapped}
 use Rattle.map_records.specs.Held.{holds-pol}
-use Rattle.map_records.specs.Agreed.{c-there}
+use Rattle.plans.specs.Passed.{names-there}
 use Rattle.map_records.specs.Sizes.{size, cm1s-columns, quotients-fit}
 use Rattle.map_records.specs.declared.all.Records.{Records}
 
@@ -54,7 +54,7 @@ module _ {b : List ℕ} {t : Tables} {rank : ℕ → ℕ} {table ss ds cs : List
       record {
         starts = subst (λ (z : List ℕ). Starts t z) (sym (a .tabling)) (a .ready .starts);
         ranked = subst (λ (z : List ℕ). Ranked (tabled t) z rank) (sym (a .tabling)) (a .ready .ranked);
-        there = subst (λ z. z < t .expressionCount) (sym (h .is)) (c-there b (t .expressionCount) (a .ready .names));
+        there = subst (λ z. z < t .expressionCount) (sym (h .is)) (names-there b (t .expressionCount) (a .ready .names) .constraint);
       }
 
   module _ {ss1 ds1 cs1 : List ℕ} {n : ℕ} (h : Holds ss1 ds1 cs1 n (intermediates b p (imCount b))) {e : ℕ} (ee : Is e (cExp b) numberLimit) {d : ℕ} (de : d ≡ expDim cs1 table p e) where

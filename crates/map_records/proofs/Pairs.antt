@@ -10,20 +10,16 @@ use Rattle.pool.specs.Admission.{Ranked}
 use Rattle.pool.specs.Ranking.{Starts}
 use Rattle.pool.specs.Tabled.{Tables, tabled}
 use Rattle.exp_dims.specs.Dimension.{expDim}
-use Rattle.plans.specs.Plan.{Is, numberLimit, numberAt, cm1, puCount, productCount, fOf, tOf, numOf, denOf, q2exp}
+use Rattle.plans.specs.Plan.{Is, numberLimit, cm1, puCount, productCount, fOf, tOf, numOf, denOf, q2exp}
 use Rattle.plans.specs.Columns.{recordLimit}
 use Rattle.map_records.specs.Mapping.{Mapping, pair, twin, column, hAt, zAt, lookupDim, lookup, lookups, products}
 use Rattle.map_records.specs.Tables.{Holds, State, Planned, Ready, DimAsks, Begun, ColumnAsks}
-use Rattle.map_records.specs.Agreed.{f-there, t-there}
+use Rattle.plans.specs.Passed.{names-there}
 use Rattle.map_records.specs.Sizes.{size, pair-size, column-size, adding-grows, lookups-fit, products-fit}
 use Rattle.map_records.proofs.Parts.{pair-next}
 
 column-grows : (b : List ℕ) (e d : ℕ) (m : Mapping) → size m ≤ size (column b e d m)
 column-grows b e d m = let k = column-size b e d m in let g = adding-grows b e (m .columns) in omega arith
-
--- a number that one equal to it stands before
-pub number-is : (b : List ℕ) {r j k : ℕ} → Is r (numberAt b k) numberLimit → k ≡ j → Is r (numberAt b j) numberLimit
-number-is b {r} {j} {k} h e = record { is = h .is ∙ ap (numberAt b) e; low = h .low }
 
 -- ---- two columns after some records
 
@@ -72,10 +68,10 @@ module _ {b : List ℕ} {t : Tables} {rank : ℕ → ℕ} {table ss ds cs seen :
 
   module _ {f : ℕ} (fe : Is f (fOf b i) numberLimit) {u : ℕ} (ue : Is u (tOf b i) numberLimit) where
     pub f-asks : DimAsks t table rank f
-    f-asks = there-asks (subst (λ z. z < t .expressionCount) (sym (fe .is)) (f-there b (t .expressionCount) (a .ready .names) i l))
+    f-asks = there-asks (subst (λ z. z < t .expressionCount) (sym (fe .is)) (names-there b (t .expressionCount) (a .ready .names) .f i l))
 
     pub t-asks : DimAsks t table rank u
-    t-asks = there-asks (subst (λ z. z < t .expressionCount) (sym (ue .is)) (t-there b (t .expressionCount) (a .ready .names) i l))
+    t-asks = there-asks (subst (λ z. z < t .expressionCount) (sym (ue .is)) (names-there b (t .expressionCount) (a .ready .names) .t i l))
 
     module _ {d : ℕ} (de : d ≡ max (expDim cs table p f) (expDim cs table p u)) where
       d-is : d ≡ lookupDim b p i m

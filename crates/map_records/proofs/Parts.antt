@@ -10,12 +10,12 @@ use Rattle.pool.specs.Tabled.{Tables, tabled}
 use Rattle.pool.specs.Admission.{Ranked}
 use Rattle.pool.specs.Ranking.{Starts}
 use Rattle.exp_dims.specs.Dimension.{expDim}
-use Rattle.plans.specs.Plan.{Is, numberLimit, numberAt, cm1, cm2, cm3, qDeg, imCount, imAt, imOf, q2exp}
+use Rattle.plans.specs.Plan.{cm1, cm2, cm3, qDeg, imCount, imAt, imOf, q2exp}
 use Rattle.plans.specs.Columns.{recordLimit}
 use Rattle.map_records.specs.Mapping.{Mapping, pair, twin, fresh, cm1s, zAt, dimIn, intermediates, qDim, quotients}
 use Rattle.map_records.specs.Tables.{Holds, Planned, Ready, DimAsks, ImAsks, QuotientAsks}
 use Rattle.map_records.specs.Held.{holds-pair}
-use Rattle.map_records.specs.Agreed.{im-there}
+use Rattle.plans.specs.Passed.{names-there}
 use Rattle.map_records.specs.Sizes.{size, pair-size, intermediates-fit, quotients-fit}
 
 -- the two records of a cm, as they were written
@@ -27,10 +27,6 @@ pair-next {ss} {ds} {cs} {ss′} {ds′} {n} {n′} {m} {m′} h s k d l e f g q
     (subst (λ (z : Mapping). Holds ss′ ds′ (set cs k d) (n + 2) z) q
     (subst (λ (z : List ℕ). Holds z ds′ (set cs k d) (n + 2) (pair s k d m)) (sym e)
     (subst (λ (z : List ℕ). Holds (set (set ss n s) (n + 1) (twin s)) z (set cs k d) (n + 2) (pair s k d m)) (sym f) (holds-pair h s k d l))))
-
--- a number that one equal to it stands before
-pub at-same : (b : List ℕ) {r : ℕ} (j : ℕ) {k : ℕ} → Is r (numberAt b k) numberLimit → k ≡ j → r ≡ numberAt b j
-at-same b j h e = h .is ∙ ap (numberAt b) e
 
 -- a mapping by its number
 pub held-at : {ss ds cs : List ℕ} {n r i j : ℕ} (to : ℕ → Mapping) → Holds ss ds cs n (to i) → i ≡ j → n ≡ r → Holds ss ds cs r (to j)
@@ -60,7 +56,7 @@ module _ {b : List ℕ} {t : Tables} {rank : ℕ → ℕ} {table ss0 ds0 cs0 : L
         record {
           starts = subst (λ z. Starts t z) (sym (a .tabling)) (r .starts);
           ranked = subst (λ z. Ranked (tabled t) z rank) (sym (a .tabling)) (r .ranked);
-          there = subst (λ z. z < t .expressionCount) (sym ke) (im-there b (t .expressionCount) (r .names) i l);
+          there = subst (λ z. z < t .expressionCount) (sym ke) (names-there b (t .expressionCount) (r .names) .im i l);
         }
 
     module _ {ss ds cs : List ℕ} (h : Holds ss ds cs (n0 + 2 * i) (intermediates b (tabled t) i)) where

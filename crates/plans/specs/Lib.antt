@@ -10,3 +10,4 @@ pub mod Counts
 pub mod Fails
 pub mod Exactly
 pub mod Passed
+pub mod Places

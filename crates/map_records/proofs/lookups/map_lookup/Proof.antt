@@ -2,7 +2,8 @@
 use Prim.Native.Nat.{_+_, _*_}
 use native.Mathlib.Omega.{arith}
 use lib.ListN.{length-set}
-use Rattle.map_records.specs.Agreed.{few-cms, counts-are}
+use Rattle.plans.specs.Passed.{counts-agree}
+use Rattle.map_records.specs.Agreed.{few-cms}
 use Rattle.map_records.proofs.Pairs.{f-asks, t-asks, lookup-room, lookup-first, lookup-second, lookup-end}
 use borrow.Author.Needs.{needs}
 use Rattle.map_records.proofs.lookups.map_lookup.Statement.{statement}
@@ -63,7 +64,7 @@ mul-cmdims-2 : tie.Need-mul-cmdims-2
 mul-cmdims-2 c = search needs
 
 slice-write-cmdims-2 : tie.Need-slice-write-cmdims-2
-slice-write-cmdims-2 c = simp length-set (omega (arith, c .before .before .before .before .before .before .before .before .before .before .before .before .before .before .pre .1 .4 .state .holds .cmSize, few-cms (c .before .before .before .before .before .before .before .before .before .before .before .before .before .before .args .plan .now) (c .before .before .before .before .before .before .before .before .before .before .before .before .before .before .pre .1 .4 .ready .planned), counts-are (c .before .before .before .before .before .before .before .before .before .before .before .before .before .before .args .plan .now) (c .before .before .before .before .before .before .before .before .before .before .before .before .before .before .pre .1 .4 .ready .planned .agree) .cm2s, c .before .before .before .before .before .before .cm1-of .ensures .is, c .before .before .before .before .before .before .before .before .before .before .before .before .before .before .pre .0))
+slice-write-cmdims-2 c = simp length-set (omega (arith, c .before .before .before .before .before .before .before .before .before .before .before .before .before .before .pre .1 .4 .state .holds .cmSize, few-cms (c .before .before .before .before .before .before .before .before .before .before .before .before .before .before .args .plan .now) (c .before .before .before .before .before .before .before .before .before .before .before .before .before .before .pre .1 .4 .ready .planned), counts-agree (c .before .before .before .before .before .before .before .before .before .before .before .before .before .before .args .plan .now) (c .before .before .before .before .before .before .before .before .before .before .before .before .before .before .pre .1 .4 .ready .planned .agree) .second, c .before .before .before .before .before .before .cm1-of .ensures .is, c .before .before .before .before .before .before .before .before .before .before .before .before .before .before .pre .0))
 
 add-add-column : tie.Need-add-add-column
 add-add-column c = omega (arith, lookup-room (c .before .before .before .before .before .before .before .before .before .before .before .before .before .before .before .before .before .pre .1 .4) (c .before .before .before .before .before .before .before .before .before .before .before .before .before .before .before .before .before .pre .0) (c .before .before .before .before .before .before .before .before .before .before .before .before .before .number-at .ensures) (c .before .before .before .before .before .before .before .before .before .before .before .before .number-at2 .ensures) (c .before .before .before .before .before .before .before .before .before .before .lookup-dim .ensures (c .before .before .before .before .before .before .before .before .before .before .before .before .before .before .before .before .before .pre .1 .0) (c .before .before .before .before .before .before .before .before .before .before .before .before .before .before .before .before .before .pre .1 .1) (c .before .before .before .before .before .before .before .before .before .before .before .before .before .before .before .before .before .pre .1 .2) (c .before .before .before .before .before .before .before .before .before .before .before .before .before .before .before .before .before .pre .1 .3) (f-asks (c .before .before .before .before .before .before .before .before .before .before .before .before .before .before .before .before .before .pre .1 .4) (c .before .before .before .before .before .before .before .before .before .before .before .before .before .before .before .before .before .pre .0) (c .before .before .before .before .before .before .before .before .before .before .before .before .before .number-at .ensures) (c .before .before .before .before .before .before .before .before .before .before .before .before .number-at2 .ensures)) (t-asks (c .before .before .before .before .before .before .before .before .before .before .before .before .before .before .before .before .before .pre .1 .4) (c .before .before .before .before .before .before .before .before .before .before .before .before .before .before .before .before .before .pre .0) (c .before .before .before .before .before .before .before .before .before .before .before .before .before .number-at .ensures) (c .before .before .before .before .before .before .before .before .before .before .before .before .number-at2 .ensures))))

@@ -1,8 +1,10 @@
 -- `map_records::products::map_product` meets its contract: each need is one lemma of proofs/Pairs.antt. Assumes nothing.
 use Prim.Native.Nat.{_+_}
 use native.Mathlib.Omega.{arith}
-use Rattle.map_records.specs.Agreed.{few-cms, counts-are, product-inside}
-use Rattle.map_records.proofs.Pairs.{number-is, product-room, product-first, product-second, product-end}
+use Rattle.plans.specs.Passed.{counts-agree}
+use Rattle.plans.specs.Places.{number-is, product-inside}
+use Rattle.map_records.specs.Agreed.{few-cms}
+use Rattle.map_records.proofs.Pairs.{product-room, product-first, product-second, product-end}
 use borrow.Author.Needs.{needs}
 use Rattle.map_records.proofs.products.map_product.Statement.{statement}
 use Rattle.map_records.proofs.products.map_product.Tie as tie
@@ -38,7 +40,7 @@ mul-cmdims : tie.Need-mul-cmdims
 mul-cmdims c = search needs
 
 slice-write-cmdims : tie.Need-slice-write-cmdims
-slice-write-cmdims c = omega (arith, c .before .before .before .before .before .before .before .before .before .before .pre .1 .1 .1 .holds .cmSize, few-cms (c .before .before .before .before .before .before .before .before .before .before .args .plan .now) (c .before .before .before .before .before .before .before .before .before .before .pre .1 .0), counts-are (c .before .before .before .before .before .before .before .before .before .before .args .plan .now) (c .before .before .before .before .before .before .before .before .before .before .pre .1 .0 .agree) .cm3s, c .before .before .before .before .cm1-of .ensures .is, c .before .before .before .cm2-of .ensures .is, c .before .before .before .before .before .before .before .before .before .before .pre .0)
+slice-write-cmdims c = omega (arith, c .before .before .before .before .before .before .before .before .before .before .pre .1 .1 .1 .holds .cmSize, few-cms (c .before .before .before .before .before .before .before .before .before .before .args .plan .now) (c .before .before .before .before .before .before .before .before .before .before .pre .1 .0), counts-agree (c .before .before .before .before .before .before .before .before .before .before .args .plan .now) (c .before .before .before .before .before .before .before .before .before .before .pre .1 .0 .agree) .third, c .before .before .before .before .cm1-of .ensures .is, c .before .before .before .cm2-of .ensures .is, c .before .before .before .before .before .before .before .before .before .before .pre .0)
 
 add-add-column : tie.Need-add-add-column
 add-add-column c = omega (arith, product-room (c .before .before .before .before .before .before .before .before .before .before .before .before .before .pre .1 .0) (c .before .before .before .before .before .before .before .before .before .before .before .before .before .pre .1 .1 .0) (c .before .before .before .before .before .before .before .before .before .before .before .before .before .pre .1 .1 .1) (c .before .before .before .before .before .before .before .before .before .before .before .before .before .pre .0) (number-is (c .before .before .before .before .before .before .before .before .before .before .before .before .before .args .plan .now) (c .before .before .before .before .before .before .before .before .before .number-at .ensures) (c .before .before .before .before .before .before .before .before .before .before .product-at .ensures .is)) (number-is (c .before .before .before .before .before .before .before .before .before .before .before .before .before .args .plan .now) (c .before .before .before .before .before .before .before .before .number-at2 .ensures) (omega (arith, c .before .before .before .before .before .before .before .before .before .before .product-at .ensures .is))))

@@ -9,8 +9,10 @@ use Rattle.plans.specs.Plan.{imCount}
 use Rattle.map_records.specs.Mapping.{intermediates}
 use Rattle.map_records.specs.Tables.{Holds, ImAsks}
 use Rattle.map_records.specs.Sizes.{intermediates-fit}
-use Rattle.map_records.specs.Agreed.{few-cms, counts-are}
-use Rattle.map_records.proofs.Parts.{at-same, held-at, im-asks, im-room, im-next}
+use Rattle.plans.specs.Passed.{counts-agree}
+use Rattle.plans.specs.Places.{at-same}
+use Rattle.map_records.specs.Agreed.{few-cms}
+use Rattle.map_records.proofs.Parts.{held-at, im-asks, im-room, im-next}
 use Rattle.map_records.proofs.rest.map_intermediates.Statement.{statement}
 use Rattle.map_records.proofs.rest.map_intermediates.Tie as tie
 
@@ -62,13 +64,13 @@ add-pair-requires : tie.Need-add-pair-requires Inv-loop μ-loop
 add-pair-requires c κs = (im-room (c .before .before .before .before .before .before .before .before .before .before .before .before .before .before .pre .4) (c .before .before .before .before .before .before .loop .i) (omega (arith, c .before .before .before .before .before .loop-test .taken, c .before .before .before .before .before .before .before .before .before .before .im-count .ensures .is)) (at-same (c .before .before .before .before .before .before .before .before .before .before .before .before .before .before .args .plan .now) _ (c .before .before .before .before .number-at .ensures) (omega (arith, c .before .before .before .before .before .before .before .before .before .im-at .ensures .is))) (c .before .before .before .before .before .before .loop .inv .1 (c .before .before .before .before .before .before .before .before .before .before .before .before .before .before .pre .0) (c .before .before .before .before .before .before .before .before .before .before .before .before .before .before .pre .1) (c .before .before .before .before .before .before .before .before .before .before .before .before .before .before .pre .2) (c .before .before .before .before .before .before .before .before .before .before .before .before .before .before .pre .3) (c .before .before .before .before .before .before .before .before .before .before .before .before .before .before .pre .4)), omega arith)
 
 add-cmdims : tie.Need-add-cmdims Inv-loop μ-loop
-add-cmdims c = omega (arith, few-cms (c .before .before .before .before .before .before .before .before .before .before .before .before .before .before .before .args .plan .now) (c .before .before .before .before .before .before .before .before .before .before .before .before .before .before .before .pre .4 .ready .planned), counts-are (c .before .before .before .before .before .before .before .before .before .before .before .before .before .before .before .args .plan .now) (c .before .before .before .before .before .before .before .before .before .before .before .before .before .before .before .pre .4 .ready .planned .agree) .cm3s, c .before .before .before .before .before .before .loop-test .taken, c .before .before .before .before .before .before .before .before .before .before .before .im-count .ensures .is, c .before .before .before .before .before .before .before .before .before .cm1-of .ensures .is, c .before .before .before .before .before .before .before .before .cm2-of .ensures .is)
+add-cmdims c = omega (arith, few-cms (c .before .before .before .before .before .before .before .before .before .before .before .before .before .before .before .args .plan .now) (c .before .before .before .before .before .before .before .before .before .before .before .before .before .before .before .pre .4 .ready .planned), counts-agree (c .before .before .before .before .before .before .before .before .before .before .before .before .before .before .before .args .plan .now) (c .before .before .before .before .before .before .before .before .before .before .before .before .before .before .before .pre .4 .ready .planned .agree) .third, c .before .before .before .before .before .before .loop-test .taken, c .before .before .before .before .before .before .before .before .before .before .before .im-count .ensures .is, c .before .before .before .before .before .before .before .before .before .cm1-of .ensures .is, c .before .before .before .before .before .before .before .before .cm2-of .ensures .is)
 
 mul-cmdims : tie.Need-mul-cmdims Inv-loop μ-loop
-mul-cmdims c = omega (arith, few-cms (c .before .before .before .before .before .before .before .before .before .before .before .before .before .before .before .args .plan .now) (c .before .before .before .before .before .before .before .before .before .before .before .before .before .before .before .pre .4 .ready .planned), counts-are (c .before .before .before .before .before .before .before .before .before .before .before .before .before .before .before .args .plan .now) (c .before .before .before .before .before .before .before .before .before .before .before .before .before .before .before .pre .4 .ready .planned .agree) .cm3s, c .before .before .before .before .before .before .loop-test .taken, c .before .before .before .before .before .before .before .before .before .before .before .im-count .ensures .is, c .before .before .before .before .before .before .before .before .before .cm1-of .ensures .is, c .before .before .before .before .before .before .before .before .cm2-of .ensures .is)
+mul-cmdims c = omega (arith, few-cms (c .before .before .before .before .before .before .before .before .before .before .before .before .before .before .before .args .plan .now) (c .before .before .before .before .before .before .before .before .before .before .before .before .before .before .before .pre .4 .ready .planned), counts-agree (c .before .before .before .before .before .before .before .before .before .before .before .before .before .before .before .args .plan .now) (c .before .before .before .before .before .before .before .before .before .before .before .before .before .before .before .pre .4 .ready .planned .agree) .third, c .before .before .before .before .before .before .loop-test .taken, c .before .before .before .before .before .before .before .before .before .before .before .im-count .ensures .is, c .before .before .before .before .before .before .before .before .before .cm1-of .ensures .is, c .before .before .before .before .before .before .before .before .cm2-of .ensures .is)
 
 slice-write-cmdims : tie.Need-slice-write-cmdims Inv-loop μ-loop
-slice-write-cmdims c = omega (arith, (c .before .before .before .before .before .before .before .loop .inv .1 (c .before .before .before .before .before .before .before .before .before .before .before .before .before .before .before .pre .0) (c .before .before .before .before .before .before .before .before .before .before .before .before .before .before .before .pre .1) (c .before .before .before .before .before .before .before .before .before .before .before .before .before .before .before .pre .2) (c .before .before .before .before .before .before .before .before .before .before .before .before .before .before .before .pre .3) (c .before .before .before .before .before .before .before .before .before .before .before .before .before .before .before .pre .4)) .cmSize, few-cms (c .before .before .before .before .before .before .before .before .before .before .before .before .before .before .before .args .plan .now) (c .before .before .before .before .before .before .before .before .before .before .before .before .before .before .before .pre .4 .ready .planned), counts-are (c .before .before .before .before .before .before .before .before .before .before .before .before .before .before .before .args .plan .now) (c .before .before .before .before .before .before .before .before .before .before .before .before .before .before .before .pre .4 .ready .planned .agree) .cm3s, c .before .before .before .before .before .before .loop-test .taken, c .before .before .before .before .before .before .before .before .before .before .before .im-count .ensures .is, c .before .before .before .before .before .before .before .before .before .cm1-of .ensures .is, c .before .before .before .before .before .before .before .before .cm2-of .ensures .is)
+slice-write-cmdims c = omega (arith, (c .before .before .before .before .before .before .before .loop .inv .1 (c .before .before .before .before .before .before .before .before .before .before .before .before .before .before .before .pre .0) (c .before .before .before .before .before .before .before .before .before .before .before .before .before .before .before .pre .1) (c .before .before .before .before .before .before .before .before .before .before .before .before .before .before .before .pre .2) (c .before .before .before .before .before .before .before .before .before .before .before .before .before .before .before .pre .3) (c .before .before .before .before .before .before .before .before .before .before .before .before .before .before .before .pre .4)) .cmSize, few-cms (c .before .before .before .before .before .before .before .before .before .before .before .before .before .before .before .args .plan .now) (c .before .before .before .before .before .before .before .before .before .before .before .before .before .before .before .pre .4 .ready .planned), counts-agree (c .before .before .before .before .before .before .before .before .before .before .before .before .before .before .before .args .plan .now) (c .before .before .before .before .before .before .before .before .before .before .before .before .before .before .before .pre .4 .ready .planned .agree) .third, c .before .before .before .before .before .before .loop-test .taken, c .before .before .before .before .before .before .before .before .before .before .before .im-count .ensures .is, c .before .before .before .before .before .before .before .before .before .cm1-of .ensures .is, c .before .before .before .before .before .before .before .before .cm2-of .ensures .is)
 
 add-i : tie.Need-add-i Inv-loop μ-loop
 add-i c = omega (arith, c .before .before .before .before .before .before .loop-test .taken)

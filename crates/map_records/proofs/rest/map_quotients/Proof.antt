@@ -7,7 +7,8 @@ use Rattle.plans.specs.Plan.{qDeg}
 use Rattle.map_records.specs.Mapping.{quotients}
 use Rattle.map_records.specs.Tables.{Holds, QuotientAsks}
 use Rattle.map_records.specs.Sizes.{quotients-fit}
-use Rattle.map_records.specs.Agreed.{few-cms, counts-are}
+use Rattle.plans.specs.Passed.{counts-agree}
+use Rattle.map_records.specs.Agreed.{few-cms}
 use Rattle.map_records.proofs.Parts.{held-at, quotient-room, quotient-next}
 use Rattle.map_records.proofs.rest.map_quotients.Statement.{statement}
 use Rattle.map_records.proofs.rest.map_quotients.Tie as tie
@@ -49,13 +50,13 @@ add-pair-requires : tie.Need-add-pair-requires Inv-loop μ-loop
 add-pair-requires c κs = (quotient-room (c .before .before .before .before .before .before .before .before .before .before .pre .0) (c .before .before .before .before .before .before .before .before .before .before .pre .1 .1) (c .before .before .before .loop .i) (omega (arith, c .before .before .loop-test .taken, c .before .before .before .before .before .before .before .q-deg-of .ensures .is)) (c .before .before .before .loop .inv .1 (c .before .before .before .before .before .before .before .before .before .before .pre .1 .0) (c .before .before .before .before .before .before .before .before .before .before .pre .1 .1)), omega arith)
 
 add-cmdims : tie.Need-add-cmdims Inv-loop μ-loop
-add-cmdims c = omega (arith, few-cms (c .before .before .before .before .before .before .before .before .before .before .before .args .plan .now) (c .before .before .before .before .before .before .before .before .before .before .before .pre .0), counts-are (c .before .before .before .before .before .before .before .before .before .before .before .args .plan .now) (c .before .before .before .before .before .before .before .before .before .before .before .pre .0 .agree) .cm4s, c .before .before .before .loop-test .taken, c .before .before .before .before .before .before .before .before .q-deg-of .ensures .is, c .before .before .before .before .before .before .before .cm1-of .ensures .is, c .before .before .before .before .before .before .cm2-of .ensures .is, c .before .before .before .before .before .cm3-of .ensures .is)
+add-cmdims c = omega (arith, few-cms (c .before .before .before .before .before .before .before .before .before .before .before .args .plan .now) (c .before .before .before .before .before .before .before .before .before .before .before .pre .0), counts-agree (c .before .before .before .before .before .before .before .before .before .before .before .args .plan .now) (c .before .before .before .before .before .before .before .before .before .before .before .pre .0 .agree) .fourth, c .before .before .before .loop-test .taken, c .before .before .before .before .before .before .before .before .q-deg-of .ensures .is, c .before .before .before .before .before .before .before .cm1-of .ensures .is, c .before .before .before .before .before .before .cm2-of .ensures .is, c .before .before .before .before .before .cm3-of .ensures .is)
 
 mul-cmdims : tie.Need-mul-cmdims Inv-loop μ-loop
-mul-cmdims c = omega (arith, few-cms (c .before .before .before .before .before .before .before .before .before .before .before .args .plan .now) (c .before .before .before .before .before .before .before .before .before .before .before .pre .0), counts-are (c .before .before .before .before .before .before .before .before .before .before .before .args .plan .now) (c .before .before .before .before .before .before .before .before .before .before .before .pre .0 .agree) .cm4s, c .before .before .before .loop-test .taken, c .before .before .before .before .before .before .before .before .q-deg-of .ensures .is, c .before .before .before .before .before .before .before .cm1-of .ensures .is, c .before .before .before .before .before .before .cm2-of .ensures .is, c .before .before .before .before .before .cm3-of .ensures .is)
+mul-cmdims c = omega (arith, few-cms (c .before .before .before .before .before .before .before .before .before .before .before .args .plan .now) (c .before .before .before .before .before .before .before .before .before .before .before .pre .0), counts-agree (c .before .before .before .before .before .before .before .before .before .before .before .args .plan .now) (c .before .before .before .before .before .before .before .before .before .before .before .pre .0 .agree) .fourth, c .before .before .before .loop-test .taken, c .before .before .before .before .before .before .before .before .q-deg-of .ensures .is, c .before .before .before .before .before .before .before .cm1-of .ensures .is, c .before .before .before .before .before .before .cm2-of .ensures .is, c .before .before .before .before .before .cm3-of .ensures .is)
 
 slice-write-cmdims : tie.Need-slice-write-cmdims Inv-loop μ-loop
-slice-write-cmdims c = omega (arith, (c .before .before .before .before .loop .inv .1 (c .before .before .before .before .before .before .before .before .before .before .before .pre .1 .0) (c .before .before .before .before .before .before .before .before .before .before .before .pre .1 .1)) .cmSize, few-cms (c .before .before .before .before .before .before .before .before .before .before .before .args .plan .now) (c .before .before .before .before .before .before .before .before .before .before .before .pre .0), counts-are (c .before .before .before .before .before .before .before .before .before .before .before .args .plan .now) (c .before .before .before .before .before .before .before .before .before .before .before .pre .0 .agree) .cm4s, c .before .before .before .loop-test .taken, c .before .before .before .before .before .before .before .before .q-deg-of .ensures .is, c .before .before .before .before .before .before .before .cm1-of .ensures .is, c .before .before .before .before .before .before .cm2-of .ensures .is, c .before .before .before .before .before .cm3-of .ensures .is)
+slice-write-cmdims c = omega (arith, (c .before .before .before .before .loop .inv .1 (c .before .before .before .before .before .before .before .before .before .before .before .pre .1 .0) (c .before .before .before .before .before .before .before .before .before .before .before .pre .1 .1)) .cmSize, few-cms (c .before .before .before .before .before .before .before .before .before .before .before .args .plan .now) (c .before .before .before .before .before .before .before .before .before .before .before .pre .0), counts-agree (c .before .before .before .before .before .before .before .before .before .before .before .args .plan .now) (c .before .before .before .before .before .before .before .before .before .before .before .pre .0 .agree) .fourth, c .before .before .before .loop-test .taken, c .before .before .before .before .before .before .before .before .q-deg-of .ensures .is, c .before .before .before .before .before .before .before .cm1-of .ensures .is, c .before .before .before .before .before .before .cm2-of .ensures .is, c .before .before .before .before .before .cm3-of .ensures .is)
 
 add-i : tie.Need-add-i Inv-loop μ-loop
 add-i c = omega (arith, c .before .before .before .before .before .before .before .cm1-of .ensures .low, c .before .before .before .before .before .before .cm2-of .ensures .low, c .before .before .before .before .before .cm3-of .ensures .low, c .before .before .before .before .before .before .before .before .q-deg-of .ensures .low, c .before .before .before .loop-test .taken)

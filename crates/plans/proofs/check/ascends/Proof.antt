@@ -5,7 +5,7 @@ use mathlib.Core.Bool.{true}
 use native.Mathlib.Omega.{arith}
 use Rattle.plans.specs.Plan.{every, imCount, ascends}
 use Rattle.plans.specs.Every.{every-next, every-fails, every-ends}
-use Rattle.plans.proofs.Places.{ascends-not, ascends-is}
+use Rattle.plans.specs.Places.{ascends-not, ascends-is}
 use Rattle.plans.proofs.check.ascends.Statement.{statement}
 use Rattle.plans.proofs.check.ascends.Tie as tie
 

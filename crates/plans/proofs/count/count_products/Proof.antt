@@ -4,7 +4,7 @@ use native.Mathlib.Omega.{arith}
 use Rattle.plans.specs.Plan.{numberLimit, productCount}
 use Rattle.plans.specs.Columns.{products}
 use Rattle.plans.specs.Counting.{Counted}
-use Rattle.plans.proofs.Places.{product-inside, at-same}
+use Rattle.plans.specs.Places.{product-inside, at-same}
 use Rattle.plans.specs.Counts.{asked-few, no-products, products-next, products-end}
 use Rattle.plans.proofs.count.count_products.Statement.{statement}
 use Rattle.plans.proofs.count.count_products.Tie as tie

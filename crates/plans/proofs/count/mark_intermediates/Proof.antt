@@ -3,7 +3,7 @@ use Prim.Native.Nat.{_≤_, _-_}
 use native.Mathlib.Omega.{arith}
 use Rattle.plans.specs.Plan.{imCount}
 use Rattle.plans.specs.Counting.{Tells}
-use Rattle.plans.proofs.Places.{at-same}
+use Rattle.plans.specs.Places.{at-same}
 use Rattle.plans.specs.Counts.{imBefore, im-next, im-all}
 use Rattle.plans.proofs.count.mark_intermediates.Statement.{statement}
 use Rattle.plans.proofs.count.mark_intermediates.Tie as tie

@@ -1,6 +1,6 @@
 -- `plans::layout::product_at` meets its contract. Assumes nothing.
 use native.Mathlib.Omega.{arith}
-use Rattle.plans.proofs.Places.{lookup-product, pair-product}
+use Rattle.plans.specs.Places.{lookup-product, pair-product}
 use borrow.Author.Needs.{needs}
 use Rattle.plans.proofs.layout.product_at.Statement.{statement}
 use Rattle.plans.proofs.layout.product_at.Tie as tie

@@ -7,7 +7,7 @@ use borrow.Author.Tests.{not-true, not-false}
 use Rattle.plans.specs.Plan.{every}
 use Rattle.plans.specs.Agreement.{nodeThere, leavesThere}
 use Rattle.plans.specs.Every.{every-next, every-fails, every-ends}
-use Rattle.plans.proofs.Places.{node-same}
+use Rattle.plans.specs.Places.{node-same}
 use Rattle.plans.proofs.there.leaves_there.Statement.{statement}
 use Rattle.plans.proofs.there.leaves_there.Tie as tie
 

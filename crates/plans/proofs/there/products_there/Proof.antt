@@ -6,7 +6,7 @@ use native.Mathlib.Omega.{arith}
 use Rattle.plans.specs.Plan.{every, productCount, numOf, denOf}
 use Rattle.plans.specs.Agreement.{productThere}
 use Rattle.plans.specs.Every.{every-next, every-fails, every-ends, both-first, both-second, both-are}
-use Rattle.plans.proofs.Places.{product-inside, at-same}
+use Rattle.plans.specs.Places.{product-inside, at-same}
 use Rattle.plans.proofs.there.products_there.Statement.{statement}
 use Rattle.plans.proofs.there.products_there.Tie as tie
 

@@ -6,7 +6,7 @@ use native.Mathlib.Omega.{arith}
 use Rattle.plans.specs.Plan.{every, q2expCount}
 use Rattle.plans.specs.Agreement.{q2expThere}
 use Rattle.plans.specs.Every.{every-next, every-fails, every-ends, below-not, below-is}
-use Rattle.plans.proofs.Places.{at-same}
+use Rattle.plans.specs.Places.{at-same}
 use Rattle.plans.proofs.there.q2exp_there.Statement.{statement}
 use Rattle.plans.proofs.there.q2exp_there.Tie as tie
 

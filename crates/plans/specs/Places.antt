@@ -37,8 +37,11 @@ product-inside b i h = go (ltb i (puCount b)) refl
     go false e = omega (arith, h, ltb-false i (puCount b) e)
 
 -- a number that one equal to it stands before
+pub number-is : (b : List ℕ) {r j k : ℕ} → Is r (numberAt b k) numberLimit → k ≡ j → Is r (numberAt b j) numberLimit
+number-is b {r} {j} {k} h e = record { is = h .is ∙ ap (numberAt b) e; low = h .low }
+
 pub at-same : (b : List ℕ) {r : ℕ} (j : ℕ) {k : ℕ} → Is r (numberAt b k) numberLimit → k ≡ j → r ≡ numberAt b j
-at-same b j h e = h .is ∙ ap (numberAt b) e
+at-same b j h e = number-is b h e .is
 
 -- what is said of a kind and an id is said of the node that has them
 pub node-same :
