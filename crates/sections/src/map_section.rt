@@ -53,7 +53,7 @@ fn write_records(sections: &[u16], dims: &[u16], positions: &mut [u16], widths: 
 }
 
 // How many records are read before one is past the limit.
-fn read_count(count: usize) -> usize
+pub fn read_count(count: usize) -> usize
     ensures { λ r. ⌜ r ≡ readCount count ⌝ }
 {
     if count <= RECORD_LIMIT {

@@ -23,7 +23,7 @@ use Rattle.sections.specs.declared.«map_section».Mapped.the-variants a
 
 -- ---- are the sections known?
 
-known-append : (xs ys : List ℕ) → known (xs ++ ys) ≡ (known xs && known ys)
+pub known-append : (xs ys : List ℕ) → known (xs ++ ys) ≡ (known xs && known ys)
 unfolding known
 known-append [] ys = refl
 known-append (x ∷ xs) ys = by (ltb x sectionCount) (known-append xs ys)
@@ -32,7 +32,7 @@ known-append (x ∷ xs) ys = by (ltb x sectionCount) (known-append xs ys)
     by true e = e
     by false e = refl
 
-known-one : (x : ℕ) (b : Bool) → ltb x sectionCount ≡ b → known (x ∷ []) ≡ b
+pub known-one : (x : ℕ) (b : Bool) → ltb x sectionCount ≡ b → known (x ∷ []) ≡ b
 unfolding known
 known-one x true e = rw e
 known-one x false e = rw e
@@ -94,7 +94,7 @@ read-within n c e = rw e (by (leb n recordLimit) refl)
     by false q = let h : recordLimit < n = leb-false n recordLimit q in omega arith
 
 -- what is read is the front up to the first record past the limit
-read-front : (ss : List ℕ) (c : ℕ) → c ≡ readCount (length ss) → take c ss ≡ take (recordLimit + 1) ss
+pub read-front : (ss : List ℕ) (c : ℕ) → c ≡ readCount (length ss) → take c ss ≡ take (recordLimit + 1) ss
 unfolding readCount
 read-front ss c e = by (leb (length ss) recordLimit) refl e
   where
