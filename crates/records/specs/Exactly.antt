@@ -2,14 +2,13 @@
 -- Assumes nothing.
 use Prim.Native.Nat.{ℕ, _<_, _≤_}
 use mathlib.Core.Path.{_≡_, refl, sym, _∙_, ap}
-use mathlib.Core.Bool.{Bool, true, false, cond, _&&_}
-use mathlib.Core.Option.{none}
+use mathlib.Core.Bool.{Bool, true, false, _&&_}
 use mathlib.Core.List.{List}
 use mathlib.Core.Logic.{_↔_, _⊎_, inl, inr}
 use native.Mathlib.Omega.{arith}
 use lib.ListN.{length}
 use lib.Dec.{eqb}
-use Rattle.meaning.specs.Refusals.{Refusal, Answer, refused, answerNo}
+use Rattle.meaning.specs.Refusals.{Answer, answerNo}
 use Rattle.sections.specs.Sections.{recordLimit, Mapping, wellFormed, mapping}
 use Rattle.sections.specs.Exactly as plain
 use Rattle.records.specs.declared.PolType.{PolType}

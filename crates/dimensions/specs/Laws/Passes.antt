@@ -10,8 +10,7 @@ use native.Mathlib.Numerals.{add-one}
 use native.Mathlib.Omega.{arith}
 use lib.ListN.{length, length-append}
 use Rattle.kinds.specs.Write.{write, write-none, write-next}
-use Rattle.kinds.specs.Records.{Apart}
-use Rattle.kinds.specs.Steps.{stepSize, stepAt, stepBytes, stepsOf, stepsBytes, step-kept, steps-none, steps-more, steps-length, steps-bytes-none, steps-bytes-one, steps-bytes-length, steps-bytes-append}
+use Rattle.kinds.specs.Steps.{stepSize, stepAt, stepBytes, stepsOf, stepsBytes, step-kept, steps-none, steps-more, steps-bytes-none, steps-bytes-one, steps-bytes-length, steps-bytes-append}
 use Rattle.kinds.specs.declared.step.Step.{Step}
 use Rattle.meaning.specs.Refusals.{Refusal, Answer, done, refused, _then_}
 use Rattle.lists.specs.Records.{recordCount, recordsIn}

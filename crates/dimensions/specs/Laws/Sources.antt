@@ -1,15 +1,13 @@
 -- The dimension of a source: each way through the code.
 -- Assumes nothing.
 use Prim.Native.Nat.{ℕ, _≤_, _<_}
-use mathlib.Core.Path.{_≡_, refl, sym, _∙_, ap}
-use mathlib.Core.Bool.{Bool, true, false, cond}
+use mathlib.Core.Path.{_≡_, sym, _∙_}
 use mathlib.Core.Option.{none}
 use mathlib.Core.List.{List}
 use lib.ListN.{length, getD}
-use lib.Dec.{eqb, ltb}
-use borrow.Author.Tests.{eq-eqb, ne-eqb, lt-ltb, le-ltb}
+use borrow.Author.Tests.{ne-eqb, lt-ltb, le-ltb}
 use Rattle.kinds.specs.declared.reference.Reference.{Reference}
-use Rattle.meaning.specs.Refusals.{Refusal, Answer, done, refused}
+use Rattle.meaning.specs.Refusals.{Refusal, done, refused}
 use Rattle.dimensions.specs.Rules as rule
 use Rattle.dimensions.specs.Rules.{ruleNo}
 use Rattle.dimensions.specs.Dimensions.{Given, positive, written, through, sourceDim}

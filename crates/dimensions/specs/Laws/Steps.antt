@@ -2,13 +2,12 @@
 -- Assumes nothing.
 use Prim.Native.Nat.{ℕ, zero, suc, max, _≤_, _<_}
 use mathlib.Core.Path.{_≡_, refl, sym, _∙_, ap}
-use mathlib.Core.Bool.{Bool, true, false, cond, _||_}
-use mathlib.Core.Option.{Option, none}
+use mathlib.Core.Bool.{Bool, true, false, cond}
+use mathlib.Core.Option.{none}
 use mathlib.Core.List.{List, [], _∷_}
 use native.Mathlib.Omega.{arith}
 use lib.ListN.{set}
-use lib.Dec.{eqb, ltb}
-use borrow.Author.Tests.{eq-eqb, ne-eqb, lt-ltb, le-ltb}
+use borrow.Author.Tests.{ne-eqb, lt-ltb, le-ltb}
 use Rattle.kinds.specs.KindBytes as kind
 use Rattle.kinds.specs.KindLaws.{sources-small}
 use Rattle.kinds.specs.StepOps.{sourcesNeeded}
@@ -17,7 +16,7 @@ use Rattle.kinds.specs.declared.step.Step.{Step}
 use Rattle.meaning.specs.Refusals.{Refusal, Answer, done, refused, _then_}
 use Rattle.meaning.specs.Trees.{upTo}
 use Rattle.dimensions.specs.Rules.{isDestination}
-use Rattle.dimensions.specs.Dimensions.{Given, sourceDim, sourceDims, largest, sized, sizedStep, stepWith, noted}
+use Rattle.dimensions.specs.Dimensions.{Given, sourceDim, sourceDims, largest, sizedStep, stepWith, noted}
 use Rattle.dimensions.specs.Steps.{slotDim, largestOf, builtStep, stepBy}
 
 -- ---- the largest

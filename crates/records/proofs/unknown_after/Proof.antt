@@ -1,6 +1,5 @@
 -- `records::unknown_after` meets its contract.
 -- Assumes nothing.
-use borrow.Author.Needs.{needs}
 use Rattle.records.specs.Laws.Tests.{bad-known, bad-unknown}
 use Rattle.records.proofs.unknown_after.Statement.{statement}
 use Rattle.records.proofs.unknown_after.Tie as tie

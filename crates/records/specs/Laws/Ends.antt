@@ -10,15 +10,14 @@ use native.Mathlib.Numerals.{add-one}
 use lib.ListN.{length, getD, take}
 use lib.Seq.{take-suc}
 use lib.Dec.{eqb, leb, ltb}
-use borrow.Author.Tests.{eq-eqb, ne-eqb, eqb-true, eqb-false, le-leb, lt-leb, leb-true, leb-false}
+use borrow.Author.Tests.{eq-eqb, ne-eqb, eqb-true}
 use Rattle.meaning.specs.Refusals.{Refusal, Answer, done, refused, answerNo}
 use Rattle.sections.specs.Sections.{sectionCount, widthCount, recordLimit, Mapping, known, wellFormed, mapping, positionsFrom, widths}
-use Rattle.sections.specs.Answer.{positionsAfter, widthsAfter}
 use Rattle.sections.specs.Groups.{readCount}
 use Rattle.sections.specs.Laws.Maps.{known-append, known-one, read-front}
 use Rattle.records.specs.declared.PolType.{PolType}
 use Rattle.records.specs.Columns.{badAfter, formed, refusalNo, acceptedCount, ColumnsMapped, alone, mapped}
-use Rattle.records.specs.Records.{written, sectionsOf, dimsOf, positionsOf, recordsMapping, recordsAfter, columnAfter, RecordsMapped}
+use Rattle.records.specs.Records.{sectionsOf, dimsOf, positionsOf, recordsMapping, RecordsMapped}
 use Rattle.records.specs.Laws.Lists.{upto, upto-all, fillTo, fill-all, length-sections, length-dims, length-positions}
 
 -- 0 where the sections are known, else 1

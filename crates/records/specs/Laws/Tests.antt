@@ -1,14 +1,11 @@
 -- What is refused: each way through the code.
 -- Assumes nothing.
 use Prim.Native.Nat.{ℕ, _≤_, _<_}
-use mathlib.Core.Path.{_≡_, refl, sym, _∙_, ap}
-use mathlib.Core.Bool.{Bool, true, false, cond, _&&_}
+use mathlib.Core.Path.{_≡_, refl, sym, _∙_}
 use mathlib.Core.List.{List}
 use lib.ListN.{length}
-use lib.Dec.{eqb, leb, ltb}
 use borrow.Author.Tests.{eq-eqb, ne-eqb, le-leb, lt-leb, lt-ltb, le-ltb}
-use Rattle.meaning.specs.Refusals.{answerNo}
-use Rattle.sections.specs.Sections.{sectionCount, widthCount, recordLimit, mapping}
+use Rattle.sections.specs.Sections.{sectionCount, widthCount, recordLimit}
 use Rattle.sections.specs.Answer.{mappedNo, MappedIs}
 use Rattle.sections.specs.declared.«map_section».Mapped.{Mapped}
 use Rattle.records.specs.Columns.{badAfter, formed, refusalNo, acceptedCount, ColumnsMapped, alone, mapped}

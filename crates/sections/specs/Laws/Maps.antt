@@ -7,14 +7,14 @@ use mathlib.Core.Option.{none}
 use mathlib.Core.List.{List, [], _∷_, _++_, append-nil}
 use native.Mathlib.Omega.{arith}
 use native.Mathlib.Numerals.{add-one}
-use lib.ListN.{length, getD, set, take, drop, length-append, length-take, take-append-drop, drop-of-length-le}
+use lib.ListN.{length, getD, take, drop, take-append-drop, drop-of-length-le}
 use lib.Seq.{take-suc, take-all, take-take}
-use lib.Dec.{eqb, leb, ltb}
+use lib.Dec.{leb, ltb}
 use borrow.Author.Tests.{leb-true, leb-false, le-leb, lt-leb, lt-ltb, le-ltb, ltb-true, eq-eqb, ne-eqb}
 use Rattle.kinds.specs.Write.{write, write-is, write-next}
-use Rattle.meaning.specs.Refusals.{Refusal, number, Answer, done, refused}
-use Rattle.sections.specs.Sums.{each, each-length, each-at}
-use Rattle.sections.specs.Sections.{Mapping, sectionCount, widthCount, recordLimit, known, wellFormed, mapping, positionsFrom, widths, firstWidth, wholeWidth, thirdWidth}
+use Rattle.meaning.specs.Refusals.{Refusal, number, done, refused}
+use Rattle.sections.specs.Sums.{each}
+use Rattle.sections.specs.Sections.{sectionCount, widthCount, recordLimit, known, wellFormed, mapping, positionsFrom, widths, firstWidth, wholeWidth, thirdWidth}
 use Rattle.sections.specs.Groups.{Records, Tallied, widthIn, readCount}
 use Rattle.sections.specs.Answer.{mappedNo, Written, MappedIs}
 use Rattle.sections.specs.Laws.Tables.{width-first, width-whole, width-third}
