@@ -10,7 +10,8 @@ use native.Mathlib.Omega.{arith}
 use Rattle.kinds.specs.declared.reference.Reference.{Reference}
 use Rattle.kinds.specs.declared.step.Step.{Step}
 use Rattle.meaning.specs.Refusals.{Refusal, number, Answer, done, refused, answerNo}
-use Rattle.dimensions.specs.Dimensions.{Given, unwritten, passed, passedLists, goodLists, dimensions}
+use Rattle.step_dimensions.specs.StepDimensions.{Given, unwritten}
+use Rattle.dimensions.specs.Dimensions.{passed, passedLists, goodLists, dimensions}
 use Rattle.dimensions.specs.Answers.{refusalOf, dimensionedNo, DimensionedIs}
 use Rattle.dimensions.specs.Conditions as when
 use Rattle.dimensions.specs.Conditions.{SourceRefused, SourcesRefused, StepRefused, StepsRefused, allRecords}

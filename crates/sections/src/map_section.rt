@@ -10,7 +10,7 @@ use crate::section::Section;
 ghost use mathlib.Core.Path.{_≡_};
 ghost use Prim.Native.Nat.{_≤_};
 ghost use lib.ListN.{length, take};
-ghost use Rattle.sections.specs.Sections.{known, widthCount, widths, positionsFrom};
+ghost use Rattle.sections.specs.Sections.{known, widthCount, widths};
 ghost use Rattle.sections.specs.Groups.{Records, readCount};
 ghost use Rattle.sections.specs.Answer.{MappedIs, Written};
 

@@ -15,9 +15,11 @@ use Rattle.kinds.specs.declared.step.Step.{Step}
 use Rattle.meaning.specs.Refusals.{Refusal, Answer, done, refused, _then_}
 use Rattle.lists.specs.Records.{recordCount, recordsIn}
 use Rattle.lists.specs.Laws.{record-in}
-use Rattle.dimensions.specs.Dimensions.{Given, stepWith, noted, Passed, passed}
-use Rattle.dimensions.specs.Answers.{whySays, decidedSays, stepTo, listTo, StepWritten, WritesStep, ListWritten, WritesFront, WritesList}
-use Rattle.dimensions.specs.declared.source.Why.{Why}
+use Rattle.step_dimensions.specs.StepDimensions.{Given, stepWith, noted}
+use Rattle.dimensions.specs.Dimensions.{Passed, passed}
+use Rattle.step_dimensions.specs.Answers.{whySays}
+use Rattle.dimensions.specs.Answers.{decidedSays, stepTo, listTo, StepWritten, WritesStep, ListWritten, WritesFront, WritesList}
+use Rattle.step_dimensions.specs.declared.source.Why.{Why}
 use Rattle.dimensions.specs.declared.pass.Decided.{Decided}
 use Rattle.dimensions.specs.declared.pass.Decided.the-variants as decided
 

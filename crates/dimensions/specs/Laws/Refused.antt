@@ -19,9 +19,10 @@ use Rattle.kinds.specs.declared.step.Step.{Step}
 use Rattle.meaning.specs.Refusals.{Refusal, Answer, done, refused, _then_}
 use Rattle.meaning.specs.Trees.{upTo}
 use Rattle.lists.specs.Records.{recordsIn}
-use Rattle.dimensions.specs.Rules as rule
-use Rattle.dimensions.specs.Rules.{ruleNo, isDestination}
-use Rattle.dimensions.specs.Dimensions.{Given, positive, through, sourceDim, sourceDims, sizedStep, unruled, stepWith, noted, Passed, passed, passedLists}
+use Rattle.step_dimensions.specs.Rules as rule
+use Rattle.step_dimensions.specs.Rules.{ruleNo, isDestination}
+use Rattle.step_dimensions.specs.StepDimensions.{Given, positive, through, sourceDim, sourceDims, sizedStep, unruled, stepWith, noted}
+use Rattle.dimensions.specs.Dimensions.{Passed, passed, passedLists}
 use Rattle.dimensions.specs.Answers.{refusalOf}
 use Rattle.dimensions.specs.Conditions as when
 use Rattle.dimensions.specs.Conditions.{NotThere, Zero, SourceRefused, SourcesRefused, StepRefused, StepsRefused, allRecords}

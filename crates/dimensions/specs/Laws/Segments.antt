@@ -14,10 +14,12 @@ use Rattle.kinds.specs.Write.{write, write-is}
 use Rattle.kinds.specs.Steps.{stepSize, stepsBytes, steps-bytes-length}
 use Rattle.meaning.specs.Refusals.{number, Answer, done, refused, _then_}
 use Rattle.lists.specs.Records.{recordCount, recordsIn, goodRecords, goodList}
-use Rattle.dimensions.specs.Dimensions.{Given, unwritten, Passed, passed, passedLists, goodLists, dimensions}
-use Rattle.dimensions.specs.Answers.{whySays, decidedSays, listTo, ListWritten, WritesList, refusalOf, decidedRefusal, WritesLists, dimensionedNo, DimensionedIs}
+use Rattle.step_dimensions.specs.StepDimensions.{Given, unwritten}
+use Rattle.dimensions.specs.Dimensions.{Passed, passed, passedLists, goodLists, dimensions}
+use Rattle.step_dimensions.specs.Answers.{whySays}
+use Rattle.dimensions.specs.Answers.{decidedSays, listTo, ListWritten, WritesList, refusalOf, decidedRefusal, WritesLists, dimensionedNo, DimensionedIs}
 use Rattle.dimensions.specs.Laws.Passes.{passed-length}
-use Rattle.dimensions.specs.declared.source.Why.{Why}
+use Rattle.step_dimensions.specs.declared.source.Why.{Why}
 use Rattle.dimensions.specs.declared.pass.Decided.{Decided}
 use Rattle.dimensions.specs.declared.pass.Decided.the-variants as decided
 use Rattle.dimensions.specs.declared.«set_code_dimensions».Dimensioned.{Dimensioned}

@@ -5,7 +5,8 @@ use mathlib.Core.Path.{_≡_, refl, _∙_}
 use native.Mathlib.Omega.{arith}
 use lib.ListN.{length}
 use Rattle.lists.specs.Records.{recordCount}
-use Rattle.dimensions.specs.Answers.{lent, WritesFront}
+use Rattle.step_dimensions.specs.Answers.{lent}
+use Rattle.dimensions.specs.Answers.{WritesFront}
 use Rattle.dimensions.specs.Laws.Passes.{write-begin, write-more, write-end, record-still}
 use Rattle.dimensions.proofs.pass.write_list.Statement.{statement}
 use Rattle.dimensions.proofs.pass.write_list.Tie as tie
