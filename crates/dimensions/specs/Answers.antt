@@ -1,42 +1,21 @@
--- WHAT THE ANSWERS SAY: each enum's cases as an answer of meaning, with document 01's number.
+-- WHAT THE ANSWERS SAY of a pass and of the entry points: each enum's cases as an answer of meaning, with document 01's number.
 -- Assumes nothing: these are definitions.
 use Prim.Native.Nat.{ℕ, _*_}
 use mathlib.Core.Path.{_≡_}
 use mathlib.Core.Option.{Option, none, some}
-use mathlib.Core.List.{List, [], _∷_}
+use mathlib.Core.List.{List}
 use Rattle.kinds.specs.Write.{write}
 use Rattle.kinds.specs.Steps.{stepSize, stepAt, stepBytes, stepsOf, stepsBytes}
 use Rattle.kinds.specs.declared.step.Step.{Step}
 use Rattle.meaning.specs.Refusals.{Refusal, number, Answer, done, refused, answerNo, _then_}
 use Rattle.lists.specs.Records.{recordCount}
-use Rattle.dimensions.specs.Dimensions.{Given, stepWith, noted, Passed, passed, passedLists, dimensions}
-use Rattle.dimensions.specs.declared.source.Why.{Why}
-use Rattle.dimensions.specs.declared.source.Why.the-variants as why
-use Rattle.dimensions.specs.declared.source.Sourced.{Sourced}
-use Rattle.dimensions.specs.declared.source.Sourced.the-variants as sourced
-use Rattle.dimensions.specs.declared.step.Stepped.{Stepped}
-use Rattle.dimensions.specs.declared.step.Stepped.the-variants as stepped
+use Rattle.step_dimensions.specs.StepDimensions.{Given, stepWith, noted}
+use Rattle.dimensions.specs.Dimensions.{Passed, passed, passedLists, dimensions}
 use Rattle.dimensions.specs.declared.pass.Decided.{Decided}
 use Rattle.dimensions.specs.declared.pass.Decided.the-variants as decided
 use Rattle.dimensions.specs.declared.«set_code_dimensions».Dimensioned.{Dimensioned}
 use Rattle.dimensions.specs.declared.«set_code_dimensions».Dimensioned.the-variants as dimensioned
-
--- what is lent to the code
-abbrev pub lent : List ℕ → List ℕ → List ℕ → ℕ → Given
-lent dims cm q x = record { recordDims = dims; cm2ns = cm; qs = q; dimX = x }
-
-abbrev pub whySays : Why → Refusal
-whySays why.NotThere = Refusal.notThere
-whySays why.NoRule = Refusal.noRule
-whySays why.NoDimension = Refusal.noDimension
-
-abbrev pub sourcedSays : Sourced → Answer ℕ
-sourcedSays (sourced.Dim d) = done d
-sourcedSays (sourced.Refused w) = refused (whySays w) none
-
-abbrev pub steppedSays : Stepped → Answer Step
-steppedSays (stepped.Sized s) = done s
-steppedSays (stepped.Refused w) = refused (whySays w) none
+use Rattle.step_dimensions.specs.Answers.{whySays}
 
 -- ---- a pass that decides: the temporaries after it, which a refusal leaves open
 

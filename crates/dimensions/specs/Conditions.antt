@@ -13,9 +13,9 @@ use Rattle.kinds.specs.declared.step.Step.{Step}
 use Rattle.meaning.specs.Refusals.{Refusal, done}
 use Rattle.meaning.specs.Trees.{upTo}
 use Rattle.lists.specs.Records.{recordsIn}
-use Rattle.dimensions.specs.Rules as rule
-use Rattle.dimensions.specs.Rules.{ruleNo, isDestination}
-use Rattle.dimensions.specs.Dimensions.{Given, sourceDim, sourceDims, unruled, stepWith, noted}
+use Rattle.step_dimensions.specs.Rules as rule
+use Rattle.step_dimensions.specs.Rules.{ruleNo, isDestination}
+use Rattle.step_dimensions.specs.StepDimensions.{Given, sourceDim, sourceDims, unruled, stepWith, noted}
 
 -- the number at id, or the record of that number, is not there
 abbrev pub NotThere : List ℕ → List ℕ → ℕ → Type 0

@@ -3,14 +3,15 @@
 use Prim.Native.Nat.{ℕ}
 use mathlib.Core.Path.{_≡_, refl, sym, _∙_, ap}
 use mathlib.Core.Bool.{Bool, true, false}
-use mathlib.Core.Option.{Option, none, some}
-use mathlib.Core.List.{List, [], _∷_}
+use mathlib.Core.Option.{none, some}
+use mathlib.Core.List.{List, _∷_}
 use mathlib.Core.Logic.{_↔_}
 use native.Mathlib.Omega.{arith}
 use Rattle.kinds.specs.declared.reference.Reference.{Reference}
 use Rattle.kinds.specs.declared.step.Step.{Step}
 use Rattle.meaning.specs.Refusals.{Refusal, number, Answer, done, refused, answerNo}
-use Rattle.dimensions.specs.Dimensions.{Given, unwritten, Passed, passed, passedLists, goodLists, dimensions}
+use Rattle.step_dimensions.specs.StepDimensions.{Given, unwritten}
+use Rattle.dimensions.specs.Dimensions.{passed, passedLists, goodLists, dimensions}
 use Rattle.dimensions.specs.Answers.{refusalOf, dimensionedNo, DimensionedIs}
 use Rattle.dimensions.specs.Conditions as when
 use Rattle.dimensions.specs.Conditions.{SourceRefused, SourcesRefused, StepRefused, StepsRefused, allRecords}

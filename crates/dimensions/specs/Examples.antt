@@ -13,8 +13,9 @@ use Rattle.kinds.specs.declared.reference.Reference.{Reference}
 use Rattle.kinds.specs.declared.step.Step.{Step}
 use Rattle.meaning.specs.Refusals.{Refusal, Answer, done, refused, _then_}
 use Rattle.meaning.specs.Trees.{Each}
-use Rattle.dimensions.specs.Rules.{ruleNo, isDestination}
-use Rattle.dimensions.specs.Dimensions.{Given, through, sourceDim, sourceDims, largest, sized, stepWith, noted, unwritten, Passed, passed}
+use Rattle.step_dimensions.specs.Rules.{ruleNo, isDestination}
+use Rattle.step_dimensions.specs.StepDimensions.{Given, through, sourceDim, sourceDims, largest, sized, stepWith, noted, unwritten}
+use Rattle.dimensions.specs.Dimensions.{passed}
 
 abbrev step : ℕ → Reference → ℕ → Reference → Reference → Step
 step o d n a b = record { op = o; count = n; origin = 0; dest = d; s0 = a; s1 = b; s2 = blankRef }

@@ -1,7 +1,4 @@
 -- Laws over plain variables, which the functions' proofs cite.
-pub mod Kinds
-pub mod Sources
-pub mod Steps
 pub mod Passes
 pub mod Segments
 pub mod Refused

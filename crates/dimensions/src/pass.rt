@@ -1,19 +1,20 @@
 // A pass over a list, record by record: one that decides and one that writes.
-use crate::source::TEMPORARIES;
-use crate::source::Why;
-use crate::step::Stepped;
-use crate::step::note_step;
-use crate::step::step_with;
 use kinds::step::STEP_SIZE;
 use kinds::step::Step;
 use kinds::step::nth_step;
 use kinds::step::put_nth_step;
+use step_dimensions::source::TEMPORARIES;
+use step_dimensions::source::Why;
+use step_dimensions::step::Stepped;
+use step_dimensions::step::note_step;
+use step_dimensions::step::step_with;
 ghost use mathlib.Core.Path.{_≡_};
 ghost use Prim.Native.Nat.{_+_, _*_, _≤_};
 ghost use lib.ListN.{length};
-ghost use Rattle.kinds.specs.Steps.{stepSize, stepAt};
+ghost use Rattle.kinds.specs.Steps.{stepSize};
 ghost use Rattle.lists.specs.Records.{recordsIn};
-ghost use Rattle.dimensions.specs.Answers.{lent, decidedSays, stepTo, listTo, WritesStep, WritesList};
+ghost use Rattle.step_dimensions.specs.Answers.{lent};
+ghost use Rattle.dimensions.specs.Answers.{decidedSays, stepTo, listTo, WritesStep, WritesList};
 
 pub enum Decided {
     Done,

@@ -2,13 +2,15 @@
 use crate::pass::Decided;
 use crate::pass::decide_list;
 use crate::pass::write_list;
-use crate::source::TEMPORARIES;
+use step_dimensions::source::TEMPORARIES;
 ghost use mathlib.Core.Path.{_≡_};
 ghost use mathlib.Core.Bool.{true};
 ghost use mathlib.Core.List.{[], _∷_};
 ghost use Rattle.lists.specs.Records.{goodList};
-ghost use Rattle.dimensions.specs.Dimensions.{unwritten, passedLists};
-ghost use Rattle.dimensions.specs.Answers.{lent, decidedRefusal, refusalOf, WritesLists};
+ghost use Rattle.step_dimensions.specs.StepDimensions.{unwritten};
+ghost use Rattle.dimensions.specs.Dimensions.{passedLists};
+ghost use Rattle.step_dimensions.specs.Answers.{lent};
+ghost use Rattle.dimensions.specs.Answers.{decidedRefusal, refusalOf, WritesLists};
 
 pub fn decide_segment(
     record_dims: &[u16],

@@ -4,12 +4,13 @@ use crate::segment::decide_first;
 use crate::segment::decide_segment;
 use crate::segment::write_first;
 use crate::segment::write_segment;
-use crate::source::Why;
 use lists::records::good_list;
+use step_dimensions::source::Why;
 ghost use mathlib.Core.Path.{_≡_};
 ghost use mathlib.Core.List.{[], _∷_};
 ghost use Rattle.meaning.specs.Refusals.{number};
-ghost use Rattle.dimensions.specs.Answers.{lent, whySays, dimensionedNo, DimensionedIs, firstDimX};
+ghost use Rattle.step_dimensions.specs.Answers.{lent, whySays};
+ghost use Rattle.dimensions.specs.Answers.{dimensionedNo, DimensionedIs, firstDimX};
 
 // The x dimension of a first list alone.
 const FIRST_DIM_X: u16 = 3;

@@ -10,7 +10,7 @@ use crate::section::Section;
 ghost use mathlib.Core.Path.{_≡_};
 ghost use Prim.Native.Nat.{_≤_};
 ghost use lib.ListN.{length, take};
-ghost use Rattle.sections.specs.Sections.{known, widthCount, widths, positionsFrom};
+ghost use Rattle.sections.specs.Sections.{known, widthCount, widths};
 ghost use Rattle.sections.specs.Groups.{Records, readCount};
 ghost use Rattle.sections.specs.Answer.{MappedIs, Written};
 
@@ -53,7 +53,7 @@ fn write_records(sections: &[u16], dims: &[u16], positions: &mut [u16], widths: 
 }
 
 // How many records are read before one is past the limit.
-fn read_count(count: usize) -> usize
+pub fn read_count(count: usize) -> usize
     ensures { λ r. ⌜ r ≡ readCount count ⌝ }
 {
     if count <= RECORD_LIMIT {

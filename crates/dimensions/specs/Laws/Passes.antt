@@ -10,15 +10,16 @@ use native.Mathlib.Numerals.{add-one}
 use native.Mathlib.Omega.{arith}
 use lib.ListN.{length, length-append}
 use Rattle.kinds.specs.Write.{write, write-none, write-next}
-use Rattle.kinds.specs.Records.{Apart}
-use Rattle.kinds.specs.Steps.{stepSize, stepAt, stepBytes, stepsOf, stepsBytes, step-kept, steps-none, steps-more, steps-length, steps-bytes-none, steps-bytes-one, steps-bytes-length, steps-bytes-append}
+use Rattle.kinds.specs.Steps.{stepSize, stepAt, stepBytes, stepsOf, stepsBytes, step-kept, steps-none, steps-more, steps-bytes-none, steps-bytes-one, steps-bytes-length, steps-bytes-append}
 use Rattle.kinds.specs.declared.step.Step.{Step}
 use Rattle.meaning.specs.Refusals.{Refusal, Answer, done, refused, _then_}
 use Rattle.lists.specs.Records.{recordCount, recordsIn}
 use Rattle.lists.specs.Laws.{record-in}
-use Rattle.dimensions.specs.Dimensions.{Given, stepWith, noted, Passed, passed}
-use Rattle.dimensions.specs.Answers.{whySays, decidedSays, stepTo, listTo, StepWritten, WritesStep, ListWritten, WritesFront, WritesList}
-use Rattle.dimensions.specs.declared.source.Why.{Why}
+use Rattle.step_dimensions.specs.StepDimensions.{Given, stepWith, noted}
+use Rattle.dimensions.specs.Dimensions.{Passed, passed}
+use Rattle.step_dimensions.specs.Answers.{whySays}
+use Rattle.dimensions.specs.Answers.{decidedSays, stepTo, listTo, StepWritten, WritesStep, ListWritten, WritesFront, WritesList}
+use Rattle.step_dimensions.specs.declared.source.Why.{Why}
 use Rattle.dimensions.specs.declared.pass.Decided.{Decided}
 use Rattle.dimensions.specs.declared.pass.Decided.the-variants as decided
 

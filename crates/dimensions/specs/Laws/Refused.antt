@@ -1,15 +1,15 @@
 -- A source, a step and a segment are either refused as the conditions say, or have their dimensions.
 -- Assumes nothing.
-use Prim.Native.Nat.{ℕ, zero, suc, _≤_, _<_}
-use mathlib.Core.Path.{_≡_, refl, sym, _∙_, ap}
+use Prim.Native.Nat.{ℕ, zero, suc, _≤_}
+use mathlib.Core.Path.{_≡_, refl, _∙_}
 use mathlib.Core.Bool.{Bool, true, false, cond, _||_}
-use mathlib.Core.Option.{Option, none, some}
-use mathlib.Core.List.{List, [], _∷_, _++_, append-assoc}
-use mathlib.Core.Logic.{_⊎_, inl, inr}
+use mathlib.Core.Option.{none}
+use mathlib.Core.List.{List, [], _∷_, _++_}
+use mathlib.Core.Logic.{inl, inr}
 use native.Mathlib.Omega.{arith}
 use lib.ListN.{length, getD}
 use lib.Dec.{eqb, ltb}
-use borrow.Author.Tests.{eqb-true, eqb-false, ltb-true, ltb-false, lt-ltb, le-ltb}
+use borrow.Author.Tests.{eqb-true, ltb-true, ltb-false, lt-ltb, le-ltb}
 use Rattle.kinds.specs.KindBytes as kind
 use Rattle.kinds.specs.Range.{within}
 use Rattle.kinds.specs.StepOps.{sourcesNeeded}
@@ -19,9 +19,10 @@ use Rattle.kinds.specs.declared.step.Step.{Step}
 use Rattle.meaning.specs.Refusals.{Refusal, Answer, done, refused, _then_}
 use Rattle.meaning.specs.Trees.{upTo}
 use Rattle.lists.specs.Records.{recordsIn}
-use Rattle.dimensions.specs.Rules as rule
-use Rattle.dimensions.specs.Rules.{ruleNo, isDestination}
-use Rattle.dimensions.specs.Dimensions.{Given, positive, written, through, sourceDim, sourceDims, sizedStep, unruled, stepWith, noted, Passed, passed, passedLists}
+use Rattle.step_dimensions.specs.Rules as rule
+use Rattle.step_dimensions.specs.Rules.{ruleNo, isDestination}
+use Rattle.step_dimensions.specs.StepDimensions.{Given, positive, through, sourceDim, sourceDims, sizedStep, unruled, stepWith, noted}
+use Rattle.dimensions.specs.Dimensions.{Passed, passed, passedLists}
 use Rattle.dimensions.specs.Answers.{refusalOf}
 use Rattle.dimensions.specs.Conditions as when
 use Rattle.dimensions.specs.Conditions.{NotThere, Zero, SourceRefused, SourcesRefused, StepRefused, StepsRefused, allRecords}

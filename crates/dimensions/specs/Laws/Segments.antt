@@ -1,10 +1,10 @@
 -- The lists of a segment, one list more; and each answer of the entry points.
 -- Assumes nothing.
-use Prim.Native.Nat.{ℕ, zero, suc, _+_, _*_, _/_, _%_, _≤_, _<_}
+use Prim.Native.Nat.{ℕ, _+_, _*_, _%_}
 use mathlib.Core.Path.{_≡_, refl, sym, _∙_, ap}
-use mathlib.Core.Bool.{Bool, true, false, cond, _&&_}
-use mathlib.Core.Option.{Option, none, some}
-use mathlib.Core.List.{List, [], _∷_, _++_, append-nil}
+use mathlib.Core.Bool.{Bool, true, false, _&&_}
+use mathlib.Core.Option.{none, some}
+use mathlib.Core.List.{List, [], _∷_, append-nil}
 use native.Mathlib.Nat.{div-add-mod'}
 use native.Mathlib.Omega.{arith}
 use lib.ListN.{length, drop-of-length-le}
@@ -12,12 +12,14 @@ use lib.Dec.{eqb}
 use borrow.Author.Tests.{eqb-true}
 use Rattle.kinds.specs.Write.{write, write-is}
 use Rattle.kinds.specs.Steps.{stepSize, stepsBytes, steps-bytes-length}
-use Rattle.meaning.specs.Refusals.{Refusal, number, Answer, done, refused, answerNo, _then_}
+use Rattle.meaning.specs.Refusals.{number, Answer, done, refused, _then_}
 use Rattle.lists.specs.Records.{recordCount, recordsIn, goodRecords, goodList}
-use Rattle.dimensions.specs.Dimensions.{Given, unwritten, Passed, passed, passedLists, goodLists, dimensions}
-use Rattle.dimensions.specs.Answers.{whySays, decidedSays, listTo, ListWritten, WritesList, refusalOf, decidedRefusal, WritesLists, dimensionedNo, DimensionedIs}
+use Rattle.step_dimensions.specs.StepDimensions.{Given, unwritten}
+use Rattle.dimensions.specs.Dimensions.{Passed, passed, passedLists, goodLists, dimensions}
+use Rattle.step_dimensions.specs.Answers.{whySays}
+use Rattle.dimensions.specs.Answers.{decidedSays, listTo, ListWritten, WritesList, refusalOf, decidedRefusal, WritesLists, dimensionedNo, DimensionedIs}
 use Rattle.dimensions.specs.Laws.Passes.{passed-length}
-use Rattle.dimensions.specs.declared.source.Why.{Why}
+use Rattle.step_dimensions.specs.declared.source.Why.{Why}
 use Rattle.dimensions.specs.declared.pass.Decided.{Decided}
 use Rattle.dimensions.specs.declared.pass.Decided.the-variants as decided
 use Rattle.dimensions.specs.declared.«set_code_dimensions».Dimensioned.{Dimensioned}

@@ -7,14 +7,14 @@ use mathlib.Core.Option.{none}
 use mathlib.Core.List.{List, [], _∷_, _++_, append-nil}
 use native.Mathlib.Omega.{arith}
 use native.Mathlib.Numerals.{add-one}
-use lib.ListN.{length, getD, set, take, drop, length-append, length-take, take-append-drop, drop-of-length-le}
+use lib.ListN.{length, getD, take, drop, take-append-drop, drop-of-length-le}
 use lib.Seq.{take-suc, take-all, take-take}
-use lib.Dec.{eqb, leb, ltb}
+use lib.Dec.{leb, ltb}
 use borrow.Author.Tests.{leb-true, leb-false, le-leb, lt-leb, lt-ltb, le-ltb, ltb-true, eq-eqb, ne-eqb}
 use Rattle.kinds.specs.Write.{write, write-is, write-next}
-use Rattle.meaning.specs.Refusals.{Refusal, number, Answer, done, refused}
-use Rattle.sections.specs.Sums.{each, each-length, each-at}
-use Rattle.sections.specs.Sections.{Mapping, sectionCount, widthCount, recordLimit, known, wellFormed, mapping, positionsFrom, widths, firstWidth, wholeWidth, thirdWidth}
+use Rattle.meaning.specs.Refusals.{Refusal, number, done, refused}
+use Rattle.sections.specs.Sums.{each}
+use Rattle.sections.specs.Sections.{sectionCount, widthCount, recordLimit, known, wellFormed, mapping, positionsFrom, widths, firstWidth, wholeWidth, thirdWidth}
 use Rattle.sections.specs.Groups.{Records, Tallied, widthIn, readCount}
 use Rattle.sections.specs.Answer.{mappedNo, Written, MappedIs}
 use Rattle.sections.specs.Laws.Tables.{width-first, width-whole, width-third}
@@ -23,7 +23,7 @@ use Rattle.sections.specs.declared.«map_section».Mapped.the-variants a
 
 -- ---- are the sections known?
 
-known-append : (xs ys : List ℕ) → known (xs ++ ys) ≡ (known xs && known ys)
+pub known-append : (xs ys : List ℕ) → known (xs ++ ys) ≡ (known xs && known ys)
 unfolding known
 known-append [] ys = refl
 known-append (x ∷ xs) ys = by (ltb x sectionCount) (known-append xs ys)
@@ -32,7 +32,7 @@ known-append (x ∷ xs) ys = by (ltb x sectionCount) (known-append xs ys)
     by true e = e
     by false e = refl
 
-known-one : (x : ℕ) (b : Bool) → ltb x sectionCount ≡ b → known (x ∷ []) ≡ b
+pub known-one : (x : ℕ) (b : Bool) → ltb x sectionCount ≡ b → known (x ∷ []) ≡ b
 unfolding known
 known-one x true e = rw e
 known-one x false e = rw e
@@ -94,7 +94,7 @@ read-within n c e = rw e (by (leb n recordLimit) refl)
     by false q = let h : recordLimit < n = leb-false n recordLimit q in omega arith
 
 -- what is read is the front up to the first record past the limit
-read-front : (ss : List ℕ) (c : ℕ) → c ≡ readCount (length ss) → take c ss ≡ take (recordLimit + 1) ss
+pub read-front : (ss : List ℕ) (c : ℕ) → c ≡ readCount (length ss) → take c ss ≡ take (recordLimit + 1) ss
 unfolding readCount
 read-front ss c e = by (leb (length ss) recordLimit) refl e
   where

@@ -1,17 +1,16 @@
 -- The definition's sums, as sums over the groups of a section: what a record adds to the sum before another of dimension d is what it adds to a group.
 -- Assumes nothing.
 use Prim.Native.Nat.{ℕ, zero, suc, _+_, _*_, _-_, _/_, _≤_, _<_}
-use mathlib.Core.Path.{_≡_, refl, sym, _∙_, ap}
+use mathlib.Core.Path.{_≡_, refl, _∙_, ap}
 use mathlib.Core.Bool.{Bool, true, false, cond, _&&_, _||_}
 use mathlib.Core.List.{List}
 use native.Mathlib.Omega.{arith}
-use native.Mathlib.Nat.{mul-le-mul-left}
 use lib.ListN.{length, getD}
-use lib.Dec.{eqb, leb, ltb}
-use borrow.Author.Tests.{le-leb, lt-leb, le-ltb, ne-eqb}
+use lib.Dec.{eqb, ltb}
+use borrow.Author.Tests.{le-leb, lt-leb, ne-eqb}
 use Rattle.kinds.specs.Range.{within}
 use Rattle.sections.specs.Sums.{sum, sum-same, sum-add, sum-cut, sum-small}
-use Rattle.sections.specs.Sections.{placed, comesBefore, sumOver, positionOf, firstWidth, wholeWidth, thirdWidth}
+use Rattle.sections.specs.Sections.{placed, positionOf, firstWidth, wholeWidth, thirdWidth}
 use Rattle.sections.specs.Groups.{taken}
 
 -- ---- a dimension is 0, has a place, or is too large

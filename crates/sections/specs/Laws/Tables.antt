@@ -4,16 +4,16 @@ use Prim.Native.Nat.{ℕ, suc, _+_, _*_, _/_, _≤_, _<_}
 use mathlib.Core.Path.{_≡_, refl, sym, _∙_, ap}
 use mathlib.Core.Bool.{Bool, true, false, cond, _&&_}
 use mathlib.Core.Logic.{_⊎_, inl, inr}
-use mathlib.Core.List.{List, [], _∷_, _++_}
+use mathlib.Core.List.{List, [], _∷_}
 use native.Mathlib.Omega.{arith}
 use native.Mathlib.Numerals.{add-one}
 use native.Mathlib.Nat.{eq-or-lt-of-le}
 use lib.ListN.{length, getD, set, replicate, length-set, length-replicate, getD-replicate}
 use lib.Seq.{getD-set-same, getD-set-other, ext-getD}
 use lib.Dec.{eqb, leb}
-use borrow.Author.Tests.{le-leb, lt-leb, leb-true, leb-false, eq-eqb, ne-eqb, eqb-true, eqb-false}
-use Rattle.kinds.specs.Write.{write, write-none, write-append}
-use Rattle.sections.specs.Sums.{sum, each, each-length, each-at}
+use borrow.Author.Tests.{le-leb, lt-leb, leb-true, leb-false, ne-eqb, eqb-true, eqb-false}
+use Rattle.kinds.specs.Write.{write, write-append}
+use Rattle.sections.specs.Sums.{each, each-length, each-at}
 use Rattle.sections.specs.Sections.{sectionCount, recordLimit, positionOf, positionsFrom, firstWidth, wholeWidth, thirdWidth}
 use Rattle.sections.specs.Groups.{groupCount, groupAt, Records, taken, Tallied, Small, added, nextIn, widthIn}
 use Rattle.sections.specs.Laws.Placing.{before-first, before-second, before-third, first-is, whole-is, third-is, taken-small, position-none, position-more, position-at}

@@ -1,16 +1,18 @@
 use mathlib.Core.Path.{_≡_}
-use Rattle.dimensions.specs.Answers.{lent, listTo}
+use Rattle.step_dimensions.specs.Answers.{lent}
+use Rattle.dimensions.specs.Answers.{listTo}
 -- `dimensions::pass::decide_list` meets its contract: the records before k have their dimensions, and left the temporaries as they stand.
 -- Assumes nothing.
 use borrow.Author.Needs.{needs}
 use Prim.Native.Nat.{_≤_, _-_}
-use mathlib.Core.Path.{_≡_, sym, _∙_, ap}
+use mathlib.Core.Path.{_≡_}
 use native.Mathlib.Omega.{arith}
 use Rattle.meaning.specs.Refusals.{done}
 use Rattle.kinds.specs.Steps.{stepsOf}
 use Rattle.lists.specs.Records.{recordCount}
 use Rattle.lists.specs.Laws.{record-in}
-use Rattle.dimensions.specs.Answers.{lent, listTo, decidedSays}
+use Rattle.step_dimensions.specs.Answers.{lent}
+use Rattle.dimensions.specs.Answers.{listTo}
 use Rattle.dimensions.specs.Laws.Passes.{decide-begin, decide-next, decide-stop, decide-end}
 use Rattle.dimensions.proofs.pass.decide_list.Statement.{statement}
 use Rattle.dimensions.proofs.pass.decide_list.Tie as tie

@@ -1,13 +1,12 @@
 -- `dimensions::pass::write_list` meets its contract: the records before k are written, where they have their dimensions.
 -- Assumes nothing.
-use borrow.Author.Needs.{needs}
 use Prim.Native.Nat.{_≤_, _-_}
-use mathlib.Core.Path.{_≡_, refl, sym, _∙_, ap}
+use mathlib.Core.Path.{_≡_, refl, _∙_}
 use native.Mathlib.Omega.{arith}
 use lib.ListN.{length}
 use Rattle.lists.specs.Records.{recordCount}
-use Rattle.lists.specs.Laws.{record-in}
-use Rattle.dimensions.specs.Answers.{lent, WritesFront}
+use Rattle.step_dimensions.specs.Answers.{lent}
+use Rattle.dimensions.specs.Answers.{WritesFront}
 use Rattle.dimensions.specs.Laws.Passes.{write-begin, write-more, write-end, record-still}
 use Rattle.dimensions.proofs.pass.write_list.Statement.{statement}
 use Rattle.dimensions.proofs.pass.write_list.Tie as tie

@@ -1,7 +1,7 @@
 -- `dimensions::pass::write_step` meets its contract.
 -- Assumes nothing.
 use mathlib.Core.Path.{sym, _∙_, ap}
-use Rattle.dimensions.specs.Answers.{steppedSays}
+use Rattle.step_dimensions.specs.Answers.{steppedSays}
 use Rattle.dimensions.specs.Laws.Passes.{wrote, wrote-not}
 use borrow.Author.Needs.{needs}
 use Rattle.dimensions.proofs.pass.write_step.Statement.{statement}

@@ -1,9 +1,8 @@
 -- `sections::groups::place` meets its contract: the positions before i are the definition's, and the table holds what the records before i take.
 -- Assumes nothing.
-use borrow.Author.Needs.{needs}
 use Prim.Native.Nat.{_≤_, _-_}
 use native.Mathlib.Omega.{arith}
-use mathlib.Core.Path.{refl, sym, _∙_, ap}
+use mathlib.Core.Path.{refl, _∙_}
 use lib.ListN.{length}
 use Rattle.sections.specs.Groups.{Tallied}
 use Rattle.sections.specs.Laws.Tables.{tally-begin, tally-next, tallied-small, all-small, PlacedTo, place-begin, place-next, place-end, position-is}

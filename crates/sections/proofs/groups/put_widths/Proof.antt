@@ -1,11 +1,10 @@
 -- `sections::groups::put_widths` meets its contract: the widths of the sections before s are written.
 -- Assumes nothing.
-use borrow.Author.Needs.{needs}
 use Prim.Native.Nat.{_≤_, _-_}
-use mathlib.Core.Path.{_≡_, refl, sym, _∙_, ap}
+use mathlib.Core.Path.{_≡_, refl, sym}
 use native.Mathlib.Omega.{arith}
 use lib.ListN.{length, length-set}
-use Rattle.kinds.specs.Write.{write, write-none, write-length}
+use Rattle.kinds.specs.Write.{write, write-none}
 use Rattle.sections.specs.Sums.{each}
 use Rattle.sections.specs.Sections.{sectionCount}
 use Rattle.sections.specs.Groups.{widthIn}

@@ -1,6 +1,5 @@
 -- `sections::groups::tally` meets its contract: the table holds what the records before i take.
 -- Assumes nothing.
-use borrow.Author.Needs.{needs}
 use Prim.Native.Nat.{_≤_, _-_}
 use native.Mathlib.Omega.{arith}
 use lib.ListN.{length}

@@ -1,11 +1,10 @@
 -- `sections::map_section::known_sections` meets its contract: the sections before k are known.
 -- Assumes nothing.
-use borrow.Author.Needs.{needs}
 use Prim.Native.Nat.{_≤_, _-_}
 use mathlib.Core.Path.{_≡_}
 use mathlib.Core.Bool.{true}
 use native.Mathlib.Omega.{arith}
-use lib.ListN.{length, take}
+use lib.ListN.{take}
 use Rattle.sections.specs.Sections.{known}
 use Rattle.sections.specs.Laws.Maps.{known-begin, known-next, known-stop, known-end}
 use Rattle.sections.proofs.map_section.known_sections.Statement.{statement}

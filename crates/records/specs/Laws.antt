@@ -1,0 +1,4 @@
+-- Laws over plain variables, which the functions' proofs cite.
+pub mod Tests
+pub mod Lists
+pub mod Ends

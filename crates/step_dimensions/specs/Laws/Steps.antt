@@ -1,0 +1,152 @@
+-- A step with its dimensions: each way through the code.
+-- Assumes nothing.
+use Prim.Native.Nat.{ℕ, zero, suc, max, _≤_, _<_}
+use mathlib.Core.Path.{_≡_, refl, sym, _∙_, ap}
+use mathlib.Core.Bool.{Bool, true, false, cond}
+use mathlib.Core.Option.{none}
+use mathlib.Core.List.{List, [], _∷_}
+use native.Mathlib.Omega.{arith}
+use lib.ListN.{set}
+use borrow.Author.Tests.{ne-eqb, lt-ltb, le-ltb}
+use Rattle.kinds.specs.KindBytes as kind
+use Rattle.kinds.specs.KindLaws.{sources-small}
+use Rattle.kinds.specs.StepOps.{sourcesNeeded}
+use Rattle.kinds.specs.declared.reference.Reference.{Reference}
+use Rattle.kinds.specs.declared.step.Step.{Step}
+use Rattle.meaning.specs.Refusals.{Refusal, Answer, done, refused, _then_}
+use Rattle.meaning.specs.Trees.{upTo}
+use Rattle.step_dimensions.specs.Rules.{isDestination}
+use Rattle.step_dimensions.specs.StepDimensions.{Given, sourceDim, sourceDims, largest, sizedStep, stepWith, noted}
+use Rattle.step_dimensions.specs.Steps.{slotDim, largestOf, builtStep, stepBy}
+
+-- ---- the largest
+
+module _ (n a b c : ℕ) where
+  pub largest-one : n ≡ 1 → a ≡ largestOf n a b c
+  unfolding largestOf
+  largest-one e = rw e
+
+  pub largest-two : n ≡ 2 → max a b ≡ largestOf n a b c
+  unfolding largestOf
+  largest-two e = rw e
+
+  pub largest-three : (n ≡ 1 → ⊥) → (n ≡ 2 → ⊥) → (m : ℕ) → m ≡ max b c → max a m ≡ largestOf n a b c
+  unfolding largestOf
+  largest-three h g m e = rw e (simp (ne-eqb n 1 h, ne-eqb n 2 g))
+
+-- ---- by the number of sources that a step needs
+
+module _ (s : Step) where
+  built-one : (a : ℕ) → builtStep 1 s a (s .s1 .dim) (s .s2 .dim) ≡ sizedStep s (a ∷ [])
+  unfolding largestOf largest
+  built-one a =
+      let e : max a 0 ≡ a = omega arith in
+      rw e
+
+  built-two : (a b : ℕ) → builtStep 2 s a b (s .s2 .dim) ≡ sizedStep s (a ∷ b ∷ [])
+  unfolding largestOf largest
+  built-two a b =
+      let e : max b 0 ≡ b = omega arith in
+      rw e
+
+  built-three : (a b c : ℕ) → builtStep 3 s a b c ≡ sizedStep s (a ∷ b ∷ c ∷ [])
+  unfolding largestOf largest
+  built-three a b c =
+      let e : max c 0 ≡ c = omega arith in
+      rw e
+
+  module _ (t : Bool) where
+    abbrev ends : Step → Answer Step
+    ends y = cond t (done y) (refused Refusal.noRule none)
+
+    by-one : (A : Answer ℕ) → (A then λ a. ends (builtStep 1 s a (s .s1 .dim) (s .s2 .dim))) ≡ ((A then λ a. done (a ∷ [])) then λ ds. ends (sizedStep s ds))
+    by-one (done a) = ap ends (built-one a)
+    by-one (refused r n) = refl
+
+    by-two : (A B : Answer ℕ)
+        → (A then λ a. B then λ b. ends (builtStep 2 s a b (s .s2 .dim)))
+        ≡ ((A then λ a. (B then λ b. done (b ∷ [])) then λ ds. done (a ∷ ds)) then λ ds. ends (sizedStep s ds))
+    by-two (done a) (done b) = ap ends (built-two a b)
+    by-two (done a) (refused r n) = refl
+    by-two (refused r n) B = refl
+
+    by-three : (A B C : Answer ℕ)
+        → (A then λ a. B then λ b. C then λ c. ends (builtStep 3 s a b c))
+        ≡ ((A then λ a. (B then λ b. (C then λ c. done (c ∷ [])) then λ ds. done (b ∷ ds)) then λ ds. done (a ∷ ds)) then λ ds. ends (sizedStep s ds))
+    by-three (done a) (done b) (done c) = ap ends (built-three a b c)
+    by-three (done a) (done b) (refused r n) = refl
+    by-three (done a) (refused r n) C = refl
+    by-three (refused r n) B C = refl
+
+  needs : (g : Given) (ts : List ℕ) (n : ℕ) → (n ≡ 0 → ⊥) → n ≤ 3
+      → stepBy g ts n s
+      ≡ (sourceDims g ts (upTo n (s .s0 ∷ s .s1 ∷ s .s2 ∷ [])) then λ ds. cond (isDestination (s .dest .kind)) (done (sizedStep s ds)) (refused Refusal.noRule none))
+  unfolding stepBy sourceDims
+  needs g ts zero h l = absurd (h refl)
+  needs g ts (suc zero) h l = by-one (isDestination (s .dest .kind)) (sourceDim g ts (s .s0))
+  needs g ts (suc (suc zero)) h l = by-two (isDestination (s .dest .kind)) (sourceDim g ts (s .s0)) (sourceDim g ts (s .s1))
+  needs g ts (suc (suc (suc zero))) h l = by-three (isDestination (s .dest .kind)) (sourceDim g ts (s .s0)) (sourceDim g ts (s .s1)) (sourceDim g ts (s .s2))
+  needs g ts (suc (suc (suc (suc n)))) h l = absurd (omega arith)
+
+-- ---- the answers
+
+module _ (g : Given) (ts : List ℕ) (s : Step) (n : ℕ) (is : n ≡ sourcesNeeded (s .op)) where
+  pub no-step : n ≡ 0 → refused Refusal.noRule none ≡ stepWith g ts s
+  unfolding stepWith
+  no-step e =
+      let z : sourcesNeeded (s .op) ≡ 0 = sym is ∙ e in
+      rw z
+
+  pub too-few : (n ≡ 0 → ⊥) → s .count < n → refused Refusal.noRule none ≡ stepWith g ts s
+  unfolding stepWith
+  too-few h f = rw (← is, ne-eqb n 0 h, lt-ltb (s .count) n f)
+
+  module _ (some : n ≡ 0 → ⊥) (enough : n ≤ s .count) where
+    is-by : stepBy g ts n s ≡ stepWith g ts s
+    unfolding stepWith
+    is-by = rw (← is, ne-eqb n 0 some, le-ltb (s .count) n enough) (needs s g ts n some (rw is (sources-small (s .op))))
+
+    pub stop-first : (w : Refusal) → refused w none ≡ slotDim g ts n 0 (s .s0) → refused w none ≡ stepWith g ts s
+    unfolding stepBy
+    stop-first w e = sym (sym is-by ∙ rw (← e))
+
+    module _ (a : ℕ) (ea : done a ≡ slotDim g ts n 0 (s .s0)) where
+      pub stop-second : (w : Refusal) → refused w none ≡ slotDim g ts n 1 (s .s1) → refused w none ≡ stepWith g ts s
+      unfolding stepBy
+      stop-second w e = sym (sym is-by ∙ rw (← ea, ← e))
+
+      module _ (b : ℕ) (eb : done b ≡ slotDim g ts n 1 (s .s1)) where
+        pub stop-third : (w : Refusal) → refused w none ≡ slotDim g ts n 2 (s .s2) → refused w none ≡ stepWith g ts s
+        unfolding stepBy
+        stop-third w e = sym (sym is-by ∙ rw (← ea, ← eb, ← e))
+
+        module _ (c : ℕ) (ec : done c ≡ slotDim g ts n 2 (s .s2)) (t : Bool) (et : t ≡ isDestination (s .dest .kind)) where
+          pub no-destination : t ≡ false → refused Refusal.noRule none ≡ stepWith g ts s
+          unfolding stepBy
+          no-destination h =
+              let z : isDestination (s .dest .kind) ≡ false = sym et ∙ h in
+              sym (sym is-by ∙ rw (← ea, ← eb, ← ec, z))
+
+          pub sizes : t ≡ true → (y : Step) → y ≡ builtStep n s a b c → done y ≡ stepWith g ts s
+          unfolding stepBy
+          sizes h y e =
+              let z : isDestination (s .dest .kind) ≡ true = sym et ∙ h in
+              ap done e ∙ sym (sym is-by ∙ rw (← ea, ← eb, ← ec, z))
+
+-- ---- a source by its place
+
+pub slot-needed : (g : Given) (ts : List ℕ) (n k : ℕ) (r : Reference) → k < n → sourceDim g ts r ≡ slotDim g ts n k r
+slot-needed g ts n k r h = rw (lt-ltb k n h)
+
+pub slot-kept : (g : Given) (ts : List ℕ) (n k : ℕ) (r : Reference) → n ≤ k → done (r .dim) ≡ slotDim g ts n k r
+slot-kept g ts n k r h = rw (le-ltb k n h)
+
+-- ---- a step noted
+
+pub noted-temporary : (ts : List ℕ) (s : Step) → s .dest .kind ≡ kind.tmp → set ts (s .dest .id) (s .dest .dim) ≡ noted ts s
+unfolding noted
+noted-temporary ts s e = rw e
+
+pub noted-other : (ts : List ℕ) (s : Step) → (s .dest .kind ≡ kind.tmp → ⊥) → ts ≡ noted ts s
+unfolding noted
+noted-other ts s h = rw (ne-eqb (s .dest .kind) kind.tmp h)

@@ -1,0 +1,38 @@
+-- A STEP'S DIMENSIONS AS THE CODE FINDS THEM: a source by its place, whether the step needs it or not.
+-- Assumes nothing: these are definitions.
+use Prim.Native.Nat.{ℕ, max}
+use mathlib.Core.Bool.{cond}
+use mathlib.Core.Option.{none}
+use mathlib.Core.List.{List}
+use lib.Dec.{eqb, ltb}
+use Rattle.kinds.specs.declared.reference.Reference.{Reference}
+use Rattle.kinds.specs.declared.step.Step.{Step}
+use Rattle.meaning.specs.Refusals.{Refusal, Answer, done, refused, _then_}
+use Rattle.step_dimensions.specs.Rules.{isDestination}
+use Rattle.step_dimensions.specs.StepDimensions.{Given, sourceDim, sized}
+
+-- a source that the step does not need keeps what it brings
+abbrev pub slotDim : Given → List ℕ → ℕ → ℕ → Reference → Answer ℕ
+slotDim g ts n k r = cond (ltb k n) (sourceDim g ts r) (done (r .dim))
+
+unfoldable pub largestOf : ℕ → ℕ → ℕ → ℕ → ℕ
+largestOf n a b c = cond (eqb n 1) a (cond (eqb n 2) (max a b) (max a (max b c)))
+
+abbrev pub builtStep : ℕ → Step → ℕ → ℕ → ℕ → Step
+builtStep n s a b c =
+    record {
+      op = s .op;
+      count = s .count;
+      origin = s .origin;
+      dest = sized (s .dest) (largestOf n a b c);
+      s0 = sized (s .s0) a;
+      s1 = sized (s .s1) b;
+      s2 = sized (s .s2) c;
+    }
+
+unfoldable pub stepBy : Given → List ℕ → ℕ → Step → Answer Step
+stepBy g ts n s =
+    slotDim g ts n 0 (s .s0) then λ a.
+    slotDim g ts n 1 (s .s1) then λ b.
+    slotDim g ts n 2 (s .s2) then λ c.
+    cond (isDestination (s .dest .kind)) (done (builtStep n s a b c)) (refused Refusal.noRule none)

@@ -1,0 +1,4 @@
+// The dimensions of one step of a list: of each source that it needs, and of its destination.
+pub mod rule;
+pub mod source;
+pub mod step;
