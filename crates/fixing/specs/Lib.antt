@@ -4,4 +4,8 @@ pub mod Records
 pub mod ProverCode
 pub mod Machine
 pub mod Answers
+pub mod Decoding
 pub mod Laws
+pub mod Joined
+pub mod Conditions
+pub mod Exactly
