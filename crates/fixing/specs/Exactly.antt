@@ -18,7 +18,8 @@ use Rattle.meaning.specs.Trees.{Each, upTo}
 use Rattle.meaning.specs.Laws.Tests.{true-false, and-left, and-right, each-map}
 use Rattle.fixing.specs.Verdicts.{Verdict, fine, malformed, notThere, noRule, full, verdictNo, firstOf, only}
 use Rattle.fixing.specs.Records.{segmentIn, countedIn, goodLists, runs}
-use Rattle.fixing.specs.ProverCode.{lastCounter, ruledReference, ruledUsed, ruledRecord, ruledRecords, decided, temporaries, proverVerdict}
+use Rattle.fixing.specs.Walks.{walked, usedVerdict, recordVerdict}
+use Rattle.fixing.specs.ProverCode.{lastCounter, ruledReference, decided, temporaries, proverVerdict}
 use Rattle.fixing.specs.Answers.{ProverCodeIs}
 use Rattle.fixing.specs.Conditions.{First, NoRule, NotThere, Ruled, referencesOf, HasStep, RecordRuled, RecordNoRule, RecordNotThere, WellFormed, Refused10, Refused3}
 use Rattle.fixing.specs.declared.fix_prover_code.Fixed.{Fixed}
@@ -26,11 +27,8 @@ use Rattle.fixing.specs.Laws.Verdicts.{first-append, first-fine}
 
 -- ---- a walk: the first refusal of a list
 
-abbrev walked : {A : Type 0} → (A → Verdict) → List A → Verdict
-walked f [] = fine
-walked f (x ∷ xs) = firstOf (f x) (walked f xs)
-
 walked-append : {A : Type 0} (f : A → Verdict) (xs ys : List A) → walked f (xs ++ ys) ≡ firstOf (walked f xs) (walked f ys)
+unfolding walked
 walked-append f [] ys = refl
 walked-append f (x ∷ xs) ys = ap (firstOf (f x)) (walked-append f xs ys) ∙ sym (first-append (f x) (walked f xs) (walked f ys))
 
@@ -52,10 +50,12 @@ stays full w k n h = h
 -- P and Q say when f is fine and when it is k
 module _ {A : Type 0} (f : A → Verdict) (k : Verdict) (n : k ≡ fine → ⊥) (P Q : A → Type 0) (is-fine : (x : A) → (f x ≡ fine) ↔ P x) (is-k : (x : A) → (f x ≡ k) ↔ Q x) where
   fine-all : (xs : List A) → Each P xs → walked f xs ≡ fine
+  unfolding walked
   fine-all [] h = refl
   fine-all (x ∷ xs) h = rw (is-fine x .1 (h .0)) (fine-all xs (h .1))
 
   all-fine : (xs : List A) → walked f xs ≡ fine → Each P xs
+  unfolding walked
   all-fine [] h = tt
   all-fine (x ∷ xs) h = go (all-fine xs) (f x) refl h
     where
@@ -67,6 +67,7 @@ module _ {A : Type 0} (f : A → Verdict) (k : Verdict) (n : k ≡ fine → ⊥)
       go ih full e q = absurd (let z : _≡_ {A = ℕ} 9 0 = ap verdictNo q in omega arith)
 
   walk-first : (xs : List A) → walked f xs ≡ k → First P Q xs
+  unfolding walked
   walk-first [] h = absurd (n (sym h))
   walk-first (x ∷ xs) h = go (first-cases (f x) (walked f xs) k h) (walk-first xs)
     where
@@ -77,6 +78,7 @@ module _ {A : Type 0} (f : A → Verdict) (k : Verdict) (n : k ≡ fine → ⊥)
       go (inr w) ih = record { before = []; this = x; after = xs; splits = refl; fineBefore = tt; itMeets = is-k x .0 w }
 
   first-walk : (xs : List A) → First P Q xs → walked f xs ≡ k
+  unfolding walked
   first-walk xs r =
       rw (r .splits, walked-append f (r .before) (r .this ∷ r .after), fine-all (r .before) (r .fineBefore))
       (stays (f (r .this)) (walked f (r .after)) k n (is-k (r .this) .1 (r .itMeets)))
@@ -171,8 +173,8 @@ module _ (cms : List ℕ) where
   W rs = walked (ruledReference cms) rs
 
   counted-walked : (c : ℕ) (a b d : Reference) (v : Verdict) →
-      firstOf (ruledUsed cms (ltb 0 c) a) (firstOf (ruledUsed cms (ltb 1 c) b) (firstOf (ruledUsed cms (ltb 2 c) d) v)) ≡ firstOf (W (upTo c (a ∷ b ∷ d ∷ []))) v
-  unfolding ruledUsed
+      firstOf (usedVerdict (ruledReference cms) (ltb 0 c) a) (firstOf (usedVerdict (ruledReference cms) (ltb 1 c) b) (firstOf (usedVerdict (ruledReference cms) (ltb 2 c) d) v)) ≡ firstOf (W (upTo c (a ∷ b ∷ d ∷ []))) v
+  unfolding usedVerdict walked
   counted-walked zero a b d v = refl
   counted-walked (suc zero) a b d v = rw (first-fine (ruledReference cms a))
   counted-walked (suc (suc zero)) a b d v =
@@ -186,8 +188,8 @@ module _ (cms : List ℕ) where
       rw (lt-ltb 0 (suc (suc (suc c))) (omega arith), lt-ltb 1 (suc (suc (suc c))) (omega arith), lt-ltb 2 (suc (suc (suc c))) (omega arith), upTo-none c, first-fine D)
       (sym (first-append A (firstOf B D) v ∙ ap (firstOf A) (first-append B D v)))
 
-  record-walked : (x : Step) → ruledRecord cms x ≡ firstOf (only (runs x) noRule) (W (referencesOf x))
-  unfolding ruledRecord
+  record-walked : (x : Step) → recordVerdict (ruledReference cms) x ≡ firstOf (only (runs x) noRule) (W (referencesOf x))
+  unfolding recordVerdict walked
   record-walked x =
       ap (firstOf (only (runs x) noRule))
       (counted-walked (x .count) (x .s0) (x .s1) (x .s2) (ruledReference cms (x .dest))
@@ -207,7 +209,7 @@ module _ (cms : List ℕ) where
   walks-3 : (rs : List Reference) → (W rs ≡ notThere) ↔ First (Ruled cms) (NotThere cms) rs
   walks-3 = walk-is (ruledReference cms) notThere not-fine-there (Ruled cms) (NotThere cms) reference-0 reference-3
 
-  record-10 : (x : Step) → (ruledRecord cms x ≡ noRule) ↔ RecordNoRule cms x
+  record-10 : (x : Step) → (recordVerdict (ruledReference cms) x ≡ noRule) ↔ RecordNoRule cms x
   record-10 x = (λ h. to (runs x) refl (sym (record-walked x) ∙ h), from)
     where
       to : (b : Bool) → runs x ≡ b → firstOf (only b noRule) (W (referencesOf x)) ≡ noRule → RecordNoRule cms x
@@ -218,18 +220,18 @@ module _ (cms : List ℕ) where
       stepless n true e = absurd (n (has-step x .0 e))
       stepless n false e = refl
 
-      from : RecordNoRule cms x → ruledRecord cms x ≡ noRule
+      from : RecordNoRule cms x → recordVerdict (ruledReference cms) x ≡ noRule
       from (inl n) = record-walked x ∙ stepless n (runs x) refl
       from (inr w) = record-walked x ∙ rw (has-step x .1 (w .0)) (walks-10 (referencesOf x) .1 (w .1))
 
-  record-3 : (x : Step) → (ruledRecord cms x ≡ notThere) ↔ RecordNotThere cms x
+  record-3 : (x : Step) → (recordVerdict (ruledReference cms) x ≡ notThere) ↔ RecordNotThere cms x
   record-3 x = (λ h. to (runs x) refl (sym (record-walked x) ∙ h), λ w. record-walked x ∙ rw (has-step x .1 (w .0)) (walks-3 (referencesOf x) .1 (w .1)))
     where
       to : (b : Bool) → runs x ≡ b → firstOf (only b noRule) (W (referencesOf x)) ≡ notThere → RecordNotThere cms x
       to true e h = (has-step x .0 e, walks-3 (referencesOf x) .0 h)
       to false e h = absurd (rule-is-not-there h)
 
-  record-0 : (x : Step) → (ruledRecord cms x ≡ fine) ↔ RecordRuled cms x
+  record-0 : (x : Step) → (recordVerdict (ruledReference cms) x ≡ fine) ↔ RecordRuled cms x
   record-0 x = (
     λ h. to (runs x) refl (sym (record-walked x) ∙ h),
     λ w. record-walked x ∙ rw (has-step x .1 (w .0)) (fine-all (ruledReference cms) noRule not-fine-rule (Ruled cms) NoRule reference-0 reference-10 (referencesOf x) (w .1)),
@@ -240,16 +242,11 @@ module _ (cms : List ℕ) where
       to false e h = absurd (not-fine-rule h)
 
   -- ---- a segment
-  records-walked : (xs : List Step) → ruledRecords cms xs ≡ walked (ruledRecord cms) xs
-  unfolding ruledRecords
-  records-walked [] = refl
-  records-walked (x ∷ xs) = ap (firstOf (ruledRecord cms x)) (records-walked xs)
+  records-10 : (xs : List Step) → (walked (recordVerdict (ruledReference cms)) xs ≡ noRule) ↔ First (RecordRuled cms) (RecordNoRule cms) xs
+  records-10 = walk-is (recordVerdict (ruledReference cms)) noRule not-fine-rule (RecordRuled cms) (RecordNoRule cms) record-0 record-10
 
-  records-10 : (xs : List Step) → (walked (ruledRecord cms) xs ≡ noRule) ↔ First (RecordRuled cms) (RecordNoRule cms) xs
-  records-10 = walk-is (ruledRecord cms) noRule not-fine-rule (RecordRuled cms) (RecordNoRule cms) record-0 record-10
-
-  records-3 : (xs : List Step) → (walked (ruledRecord cms) xs ≡ notThere) ↔ First (RecordRuled cms) (RecordNotThere cms) xs
-  records-3 = walk-is (ruledRecord cms) notThere not-fine-there (RecordRuled cms) (RecordNotThere cms) record-0 record-3
+  records-3 : (xs : List Step) → (walked (recordVerdict (ruledReference cms)) xs ≡ notThere) ↔ First (RecordRuled cms) (RecordNotThere cms) xs
+  records-3 = walk-is (recordVerdict (ruledReference cms)) notThere not-fine-there (RecordRuled cms) (RecordNotThere cms) record-0 record-3
 
   module _ (counter : ℕ) (first i last : List ℕ) where
     abbrev formed : Bool
@@ -268,18 +265,18 @@ module _ (cms : List ℕ) where
       -- a verdict that is neither 1 nor 9 nor 0 is that of the records
       from-records :
           (k : Verdict) → (k ≡ fine → ⊥) → (malformed ≡ k → ⊥) → (full ≡ k → ⊥) →
-          (proverVerdict rules cms counter first i last ≡ k) ↔ ((formed ≡ true) × (walked (ruledRecord cms) (segmentIn first i last) ≡ k))
+          (proverVerdict rules cms counter first i last ≡ k) ↔ ((formed ≡ true) × (walked (recordVerdict (ruledReference cms)) (segmentIn first i last) ≡ k))
       unfolding proverVerdict decided
       from-records k nf nm nu = (
-        λ h. to (formed) refl (sym (ap (λ v. firstOf (firstOf (only formed malformed) v) fit) (records-walked (segmentIn first i last))) ∙ h),
-        λ w. ap (λ v. firstOf (firstOf (only formed malformed) v) fit) (records-walked (segmentIn first i last)) ∙ rw (w .0) (stays (walked (ruledRecord cms) (segmentIn first i last)) fit k nf (w .1)),
+        λ h. to (formed) refl (h),
+        λ w. rw (w .0) (stays (walked (recordVerdict (ruledReference cms)) (segmentIn first i last)) fit k nf (w .1)),
       )
         where
-          to : (b : Bool) → formed ≡ b → firstOf (firstOf (only b malformed) (walked (ruledRecord cms) (segmentIn first i last))) fit ≡ k → (formed ≡ true) × (walked (ruledRecord cms) (segmentIn first i last) ≡ k)
+          to : (b : Bool) → formed ≡ b → firstOf (firstOf (only b malformed) (walked (recordVerdict (ruledReference cms)) (segmentIn first i last))) fit ≡ k → (formed ≡ true) × (walked (recordVerdict (ruledReference cms)) (segmentIn first i last) ≡ k)
           to false e h = absurd (nm h)
-          to true e h = (e, go (first-cases (walked (ruledRecord cms) (segmentIn first i last)) fit k h))
+          to true e h = (e, go (first-cases (walked (recordVerdict (ruledReference cms)) (segmentIn first i last)) fit k h))
             where
-              go : ((walked (ruledRecord cms) (segmentIn first i last) ≡ fine) × (fit ≡ k)) ⊎ (walked (ruledRecord cms) (segmentIn first i last) ≡ k) → walked (ruledRecord cms) (segmentIn first i last) ≡ k
+              go : ((walked (recordVerdict (ruledReference cms)) (segmentIn first i last) ≡ fine) × (fit ≡ k)) ⊎ (walked (recordVerdict (ruledReference cms)) (segmentIn first i last) ≡ k) → walked (recordVerdict (ruledReference cms)) (segmentIn first i last) ≡ k
               go (inl w) = absurd (only-other (leb (temporaries rules counter first i last .next) lastCounter) full k nf nu (w .1))
               go (inr w) = w
 

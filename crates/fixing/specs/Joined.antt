@@ -248,7 +248,7 @@ module _ (literal : ℕ → Lit) (rules cms : List ℕ) where
 
   joined-step : (x : bytes.Step) (y : Step) → goodRecord x ≡ true → stepFrom literal x ≡ some y →
       ((s : Fixing) → meetRecord L x s ≡ fixStep L y s .after) × ((m : Map) → stepFrom literal (fixRecord rules cms m x) ≡ some (renameStep (fixCell L m) y))
-  unfolding stepFrom meetRecord fixRecord recordBy goodRecord
+  unfolding stepFrom meetRecord recordBy goodRecord
   joined-step x y g e =
       let few : x .count ≤ 3 = leb-true (x .count) 3 (and-left (leb (x .count) 3) _ g) in
       let g1 = and-right (leb (x .count) 3) _ g in

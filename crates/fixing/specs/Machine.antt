@@ -9,7 +9,6 @@ use lib.Dec.{eqb, leb, ltb}
 use Rattle.kinds.specs.KindBytes as kind
 use Rattle.kinds.specs.declared.reference.Reference.{Reference}
 use Rattle.kinds.specs.declared.step.Step.{Step}
-use Rattle.fixing.specs.Records.{recordBy, usedBy}
 use Rattle.fixing.specs.ProverCode.{lastCounter, ruleKind, ruleId, ruleDim, ruleFor, placed}
 
 -- ---- new temporaries
@@ -88,9 +87,3 @@ module _ (rules : List ℕ) where
   module _ (cms plain primed : List ℕ) where
     unfoldable pub referenceIn : Reference → Reference
     referenceIn r = cond (eqb (r .kind) kind.cm) (placed cms r) (cond (eqb (r .kind) kind.exp) (expressionIn plain primed r) r)
-
-    unfoldable pub usedIn : Bool → Reference → Reference
-    usedIn used r = usedBy referenceIn used r
-
-    unfoldable pub recordIn : Step → Step
-    recordIn x = recordBy referenceIn x

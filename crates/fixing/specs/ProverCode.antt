@@ -12,7 +12,8 @@ use Rattle.kinds.specs.declared.reference.Reference.{Reference}
 use Rattle.kinds.specs.declared.step.Step.{Step}
 use Rattle.fixed_meaning.specs.Fixing.{Plan, Map, Fixing, begin, grow}
 use Rattle.fixing.specs.Verdicts.{Verdict, fine, malformed, notThere, noRule, full, firstOf, only, ifFine}
-use Rattle.fixing.specs.Records.{segmentIn, goodLists, runs, recordBy, rewritten}
+use Rattle.fixing.specs.Records.{segmentIn, goodLists, recordBy, rewritten}
+use Rattle.fixing.specs.Walks.{walked, recordVerdict}
 
 -- the largest counter, a number of 16 bits
 abbrev pub lastCounter : ℕ
@@ -52,21 +53,6 @@ module _ (cms : List ℕ) where
   ruledReference r =
       cond (eqb (r .kind) kind.cm) (only (ltb (r .id) (length cms)) notThere)
       (only (not (within kind.tree1 kind.Z (r .kind))) noRule)
-
-  unfoldable pub ruledUsed : Bool → Reference → Verdict
-  ruledUsed used r = cond used (ruledReference r) fine
-
-  -- its step, its sources from left to right, its destination
-  unfoldable pub ruledRecord : Step → Verdict
-  ruledRecord x =
-      firstOf (only (runs x) noRule)
-      (firstOf (ruledUsed (ltb 0 (x .count)) (x .s0))
-      (firstOf (ruledUsed (ltb 1 (x .count)) (x .s1))
-      (firstOf (ruledUsed (ltb 2 (x .count)) (x .s2)) (ruledReference (x .dest)))))
-
-  unfoldable pub ruledRecords : List Step → Verdict
-  ruledRecords [] = fine
-  ruledRecords (x ∷ xs) = firstOf (ruledRecord x) (ruledRecords xs)
 
 -- ---- new temporaries
 
@@ -114,7 +100,7 @@ module _ (rules cms : List ℕ) (m : Map) where
       cond (eqb (r .kind) kind.cm) (placed cms r)
       (cond (eqb (r .kind) kind.exp) (fixExpression (planOf rules .im (r .id)) (planOf rules .column (r .id)) (m (r .id) (r .prime)) (ruleDim rule) r) r)
 
-  unfoldable pub fixRecord : Step → Step
+  abbrev pub fixRecord : Step → Step
   fixRecord x = recordBy fixReference x
 
 -- ---- the whole
@@ -122,7 +108,7 @@ module _ (rules cms : List ℕ) (m : Map) where
 module _ (cms : List ℕ) (counter : ℕ) (first i last : List ℕ) where
   -- 1 over the counter and all three lists, then 10 and 3 as the walk over first, i, last meets them
   unfoldable pub decided : Verdict
-  decided = firstOf (only (leb counter lastCounter && goodLists first i last) malformed) (ruledRecords cms (segmentIn first i last))
+  decided = firstOf (only (leb counter lastCounter && goodLists first i last) malformed) (walked (recordVerdict (ruledReference cms)) (segmentIn first i last))
 
 module _ (rules : List ℕ) (counter : ℕ) (first i last : List ℕ) where
   -- the temporaries of the whole segment

@@ -13,8 +13,8 @@ use kinds::step::nth_step;
 use kinds::step::put_nth_step;
 ghost use mathlib.Core.Path.{_≡_};
 ghost use lib.ListN.{getD};
-ghost use Rattle.fixing.specs.Records.{rewritten};
-ghost use Rattle.fixing.specs.Machine.{temporaryIn, expressionIn, referenceIn, usedIn, recordIn};
+ghost use Rattle.fixing.specs.Records.{usedBy, recordBy, rewritten};
+ghost use Rattle.fixing.specs.Machine.{temporaryIn, expressionIn, referenceIn};
 
 fn word_at(words: &[u16], id: u16) -> u16
     ensures { λ r. ⌜ r ≡ getD (now (words .entry)) id 0 ⌝ }
@@ -112,7 +112,7 @@ fn fixed_used(
     used: bool,
     r: Reference,
 ) -> Reference
-    ensures { λ x. ⌜ x ≡ usedIn (now (rules .entry)) (now (cms .entry)) (now (plain .entry)) (now (primed .entry)) used r ⌝ }
+    ensures { λ x. ⌜ x ≡ usedBy (referenceIn (now (rules .entry)) (now (cms .entry)) (now (plain .entry)) (now (primed .entry))) used r ⌝ }
 {
     if used {
         return fixed_reference(rules, cms, plain, primed, r);
@@ -127,7 +127,7 @@ fn fixed_record(
     primed: &[u16; ID_LIMIT],
     s: Step,
 ) -> Step
-    ensures { λ x. ⌜ x ≡ recordIn (now (rules .entry)) (now (cms .entry)) (now (plain .entry)) (now (primed .entry)) s ⌝ }
+    ensures { λ x. ⌜ x ≡ recordBy (referenceIn (now (rules .entry)) (now (cms .entry)) (now (plain .entry)) (now (primed .entry))) s ⌝ }
 {
     Step {
         op: s.op,
@@ -147,7 +147,7 @@ pub fn fix_list(
     primed: &[u16; ID_LIMIT],
     list: &mut [u8],
 )
-    ensures { λ _. ⌜ now (list .exit) ≡ rewritten (recordIn (now (rules .entry)) (now (cms .entry)) (now (plain .entry)) (now (primed .entry))) (now (list .entry)) ⌝ }
+    ensures { λ _. ⌜ now (list .exit) ≡ rewritten (recordBy (referenceIn (now (rules .entry)) (now (cms .entry)) (now (plain .entry)) (now (primed .entry)))) (now (list .entry)) ⌝ }
 {
     let count = list.len() / STEP_SIZE;
     let mut k: usize = 0;

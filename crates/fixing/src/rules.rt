@@ -13,7 +13,8 @@ use kinds::step::nth_step;
 ghost use mathlib.Core.Path.{_≡_};
 ghost use Rattle.fixing.specs.Verdicts.{verdictNo};
 ghost use Rattle.fixing.specs.Records.{recordsIn, segmentIn};
-ghost use Rattle.fixing.specs.ProverCode.{ruledReference, ruledUsed, ruledRecord, ruledRecords, decided};
+ghost use Rattle.fixing.specs.Walks.{walked, usedVerdict, recordVerdict};
+ghost use Rattle.fixing.specs.ProverCode.{ruledReference, decided};
 
 // Document 01's refusal 10.
 pub const NO_RULE: u8 = 10;
@@ -36,7 +37,7 @@ fn ruled_reference(cms: &[u16], r: Reference) -> u8
 }
 
 fn ruled_used(cms: &[u16], used: bool, r: Reference) -> u8
-    ensures { λ n. ⌜ n ≡ verdictNo (ruledUsed (now (cms .entry)) used r) ⌝ }
+    ensures { λ n. ⌜ n ≡ verdictNo (usedVerdict (ruledReference (now (cms .entry))) used r) ⌝ }
 {
     if used {
         return ruled_reference(cms, r);
@@ -46,7 +47,7 @@ fn ruled_used(cms: &[u16], used: bool, r: Reference) -> u8
 
 // Its step, its sources from left to right, its destination.
 fn ruled_record(cms: &[u16], s: Step) -> u8
-    ensures { λ n. ⌜ n ≡ verdictNo (ruledRecord (now (cms .entry)) s) ⌝ }
+    ensures { λ n. ⌜ n ≡ verdictNo (recordVerdict (ruledReference (now (cms .entry))) s) ⌝ }
 {
     if !has_step(s) {
         return NO_RULE;
@@ -67,7 +68,7 @@ fn ruled_record(cms: &[u16], s: Step) -> u8
 }
 
 fn ruled_list(cms: &[u16], list: &[u8]) -> u8
-    ensures { λ n. ⌜ n ≡ verdictNo (ruledRecords (now (cms .entry)) (recordsIn (now (list .entry)))) ⌝ }
+    ensures { λ n. ⌜ n ≡ verdictNo (walked (recordVerdict (ruledReference (now (cms .entry)))) (recordsIn (now (list .entry)))) ⌝ }
 {
     let count = list.len() / STEP_SIZE;
     let mut k: usize = 0;
@@ -82,7 +83,7 @@ fn ruled_list(cms: &[u16], list: &[u8]) -> u8
 }
 
 fn ruled_lists(cms: &[u16], first: &[u8], i: &[u8], last: &[u8]) -> u8
-    ensures { λ n. ⌜ n ≡ verdictNo (ruledRecords (now (cms .entry)) (segmentIn (now (first .entry)) (now (i .entry)) (now (last .entry)))) ⌝ }
+    ensures { λ n. ⌜ n ≡ verdictNo (walked (recordVerdict (ruledReference (now (cms .entry)))) (segmentIn (now (first .entry)) (now (i .entry)) (now (last .entry)))) ⌝ }
 {
     let in_first = ruled_list(cms, first);
     if in_first != NONE {

@@ -13,7 +13,7 @@ use Rattle.kinds.specs.declared.reference.Reference.{Reference}
 use Rattle.kinds.specs.declared.step.Step.{Step}
 use Rattle.fixing.specs.Records.{recordBy, usedBy}
 use Rattle.fixing.specs.ProverCode.{ruleKind, ruleId, ruleDim, ruleFor}
-use Rattle.fixing.specs.Machine.{temporaryIn, expressionIn, referenceIn, usedIn, recordIn}
+use Rattle.fixing.specs.Machine.{temporaryIn, expressionIn, referenceIn}
 
 -- a reference of kind k, with this id, dimension and extra
 abbrev pub as-kind : ℕ → ℕ → ℕ → ℕ → Reference → Reference
@@ -62,17 +62,19 @@ module _ (rules cms plain primed : List ℕ) where
   unfolding referenceIn
   reference-other r h k = rw (ne-eqb (r .kind) kind.cm h, ne-eqb (r .kind) kind.exp k)
 
-  pub used-fixed : (u : Bool) (r x : Reference) → u ≡ true → x ≡ referenceIn rules cms plain primed r → x ≡ usedIn rules cms plain primed u r
-  unfolding usedIn usedBy
+-- ---- a record, whatever its references become
+
+module _ (f : Reference → Reference) where
+  pub used-fixed : (u : Bool) (r x : Reference) → u ≡ true → x ≡ f r → x ≡ usedBy f u r
+  unfolding usedBy
   used-fixed u r x h e = rw h e
 
-  pub unused-fixed : (u : Bool) (r : Reference) → u ≡ false → r ≡ usedIn rules cms plain primed u r
-  unfolding usedIn usedBy
+  pub unused-fixed : (u : Bool) (r : Reference) → u ≡ false → r ≡ usedBy f u r
+  unfolding usedBy
   unused-fixed u r h = rw h
 
   pub record-fixed :
-      (x : Step) (d a b c : Reference) → d ≡ referenceIn rules cms plain primed (x .dest) → a ≡ usedIn rules cms plain primed (ltb 0 (x .count)) (x .s0) →
-      b ≡ usedIn rules cms plain primed (ltb 1 (x .count)) (x .s1) → c ≡ usedIn rules cms plain primed (ltb 2 (x .count)) (x .s2) →
-      record { op = x .op; count = x .count; origin = x .origin; dest = d; s0 = a; s1 = b; s2 = c } ≡ recordIn rules cms plain primed x
-  unfolding recordIn recordBy usedIn
+      (x : Step) (d a b c : Reference) → d ≡ f (x .dest) → a ≡ usedBy f (ltb 0 (x .count)) (x .s0) → b ≡ usedBy f (ltb 1 (x .count)) (x .s1) →
+      c ≡ usedBy f (ltb 2 (x .count)) (x .s2) → record { op = x .op; count = x .count; origin = x .origin; dest = d; s0 = a; s1 = b; s2 = c } ≡ recordBy f x
+  unfolding recordBy
   record-fixed x d a b c ed ea eb ec = rw (ed, ea, eb, ec)

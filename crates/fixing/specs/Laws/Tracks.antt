@@ -17,7 +17,7 @@ use Rattle.meaning.specs.Trees.{Each}
 use Rattle.fixed_meaning.specs.Fixing.{Plan, Map, Fixing, begin, given, grow}
 use Rattle.fixing.specs.Records.{recordBy, usedBy, mapped}
 use Rattle.fixing.specs.ProverCode.{lastCounter, ruleKind, ruleId, ruleDim, ruleFor, idWhere, planOf, meetReference, meetUsed, meetRecord, meetRecords, fixExpression, fixReference, fixRecord}
-use Rattle.fixing.specs.Machine.{takesTemporary, over, tableAfter, counterAfter, Tables, tables, giveReference, giveUsed, giveRecord, giveRecords, temporaryIn, tmpFrom, expressionIn, referenceIn, recordIn}
+use Rattle.fixing.specs.Machine.{takesTemporary, over, tableAfter, counterAfter, Tables, tables, giveReference, giveUsed, giveRecord, giveRecords, temporaryIn, tmpFrom, expressionIn, referenceIn}
 
 -- how many ids there are
 abbrev pub idLimit : ℕ
@@ -238,12 +238,12 @@ module _ (rules : List ℕ) where
       used-same true r o = reference-same r (o refl)
       used-same false r o = refl
 
-      record-same : (x : Step) → SoundRecord x → recordIn rules cms plain primed x ≡ fixRecord rules cms m x
-      unfolding recordIn fixRecord recordBy
+      record-same : (x : Step) → SoundRecord x → recordBy (referenceIn rules cms plain primed) x ≡ fixRecord rules cms m x
+      unfolding recordBy
       record-same x o =
           rw (reference-same (x .dest) (o .dest), used-same (ltb 0 (x .count)) (x .s0) (o .s0), used-same (ltb 1 (x .count)) (x .s1) (o .s1), used-same (ltb 2 (x .count)) (x .s2) (o .s2))
 
-      pub records-same : (xs : List Step) → Each SoundRecord xs → mapped (recordIn rules cms plain primed) xs ≡ mapped (fixRecord rules cms m) xs
+      pub records-same : (xs : List Step) → Each SoundRecord xs → mapped (recordBy (referenceIn rules cms plain primed)) xs ≡ mapped (fixRecord rules cms m) xs
       unfolding mapped
       records-same [] o = refl
       records-same (x ∷ xs) o = rw (record-same x (o .0), records-same xs (o .1))

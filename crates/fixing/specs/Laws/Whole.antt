@@ -21,9 +21,10 @@ use Rattle.meaning.specs.Trees.{Each}
 use Rattle.meaning.specs.Laws.Tests.{true-false, and-left, and-right, each-join}
 use Rattle.fixed_meaning.specs.Fixing.{Fixing, begin}
 use Rattle.fixing.specs.Verdicts.{Verdict, fine, malformed, notThere, noRule, full, verdictNo, firstOf, only}
-use Rattle.fixing.specs.Records.{recordCount, recordsIn, segmentIn, goodReference, goodUsed, goodRecord, goodRecords, goodList, goodLists, runs, mapped, rewritten}
-use Rattle.fixing.specs.ProverCode.{lastCounter, planOf, ruledReference, ruledUsed, ruledRecord, ruledRecords, fixRecord, decided, temporaries, proverVerdict, listAfter}
-use Rattle.fixing.specs.Machine.{over, Tables, tables, giveRecords, recordIn}
+use Rattle.fixing.specs.Records.{recordCount, recordsIn, segmentIn, goodReference, goodUsed, goodRecord, goodRecords, goodList, goodLists, runs, recordBy, mapped, rewritten}
+use Rattle.fixing.specs.Walks.{walked, usedVerdict, recordVerdict}
+use Rattle.fixing.specs.ProverCode.{lastCounter, planOf, ruledReference, fixRecord, decided, temporaries, proverVerdict, listAfter}
+use Rattle.fixing.specs.Machine.{over, Tables, tables, giveRecords, referenceIn}
 use Rattle.fixing.specs.Answers.{ProverCodeIs, fixedOf}
 use Rattle.fixing.specs.declared.fix_prover_code.Fixed.{Fixed}
 use Rattle.fixing.specs.declared.fix_prover_code.Fixed.the-variants as fixed
@@ -105,21 +106,21 @@ start-shows n counter h = record {
 
 -- ---- what is decided is never 9
 
-abbrev NotFull : Verdict → Type 0
+abbrev pub NotFull : Verdict → Type 0
 NotFull fine = Unit {0}
 NotFull malformed = Unit {0}
 NotFull notThere = Unit {0}
 NotFull noRule = Unit {0}
 NotFull full = ⊥
 
-first-not-full : (v w : Verdict) → NotFull v → NotFull w → NotFull (firstOf v w)
+pub first-not-full : (v w : Verdict) → NotFull v → NotFull w → NotFull (firstOf v w)
 first-not-full fine w h k = k
 first-not-full malformed w h k = h
 first-not-full notThere w h k = h
 first-not-full noRule w h k = h
 first-not-full full w h k = h
 
-only-not-full : (b : Bool) (v : Verdict) → NotFull v → NotFull (only b v)
+pub only-not-full : (b : Bool) (v : Verdict) → NotFull v → NotFull (only b v)
 only-not-full true v h = tt
 only-not-full false v h = h
 
@@ -133,48 +134,50 @@ module _ (cms : List ℕ) where
       go v w true h k = h
       go v w false h k = k
 
-  used-not-full : (u : Bool) (r : Reference) → NotFull (ruledUsed cms u r)
-  unfolding ruledUsed
-  used-not-full true r = reference-not-full r
+module _ (g : Reference → Verdict) (not-full : (r : Reference) → NotFull (g r)) where
+  used-not-full : (u : Bool) (r : Reference) → NotFull (usedVerdict g u r)
+  unfolding usedVerdict
+  used-not-full true r = not-full r
   used-not-full false r = tt
 
-  record-not-full : (x : Step) → NotFull (ruledRecord cms x)
-  unfolding ruledRecord
+  record-not-full : (x : Step) → NotFull (recordVerdict g x)
+  unfolding recordVerdict
   record-not-full x =
-      let a = ruledUsed cms (ltb 0 (x .count)) (x .s0) in
-      let b = ruledUsed cms (ltb 1 (x .count)) (x .s1) in
-      let c = ruledUsed cms (ltb 2 (x .count)) (x .s2) in
-      let d = ruledReference cms (x .dest) in
-      let h₂ = first-not-full c d (used-not-full (ltb 2 (x .count)) (x .s2)) (reference-not-full (x .dest)) in
+      let a = usedVerdict g (ltb 0 (x .count)) (x .s0) in
+      let b = usedVerdict g (ltb 1 (x .count)) (x .s1) in
+      let c = usedVerdict g (ltb 2 (x .count)) (x .s2) in
+      let d = g (x .dest) in
+      let h₂ = first-not-full c d (used-not-full (ltb 2 (x .count)) (x .s2)) (not-full (x .dest)) in
       let h₁ = first-not-full b (firstOf c d) (used-not-full (ltb 1 (x .count)) (x .s1)) h₂ in
       let h₀ = first-not-full a (firstOf b (firstOf c d)) (used-not-full (ltb 0 (x .count)) (x .s0)) h₁ in
       first-not-full (only (runs x) noRule) (firstOf a (firstOf b (firstOf c d))) (only-not-full (runs x) noRule tt) h₀
 
-  records-not-full : (xs : List Step) → NotFull (ruledRecords cms xs)
-  unfolding ruledRecords
+  pub records-not-full : (xs : List Step) → NotFull (walked (recordVerdict g) xs)
+  unfolding walked
   records-not-full [] = tt
-  records-not-full (x ∷ xs) = first-not-full (ruledRecord cms x) (ruledRecords cms xs) (record-not-full x) (records-not-full xs)
+  records-not-full (x ∷ xs) = first-not-full (recordVerdict g x) (walked (recordVerdict g) xs) (record-not-full x) (records-not-full xs)
 
+module _ (cms : List ℕ) where
   decided-not-full : (counter : ℕ) (first i last : List ℕ) → NotFull (decided cms counter first i last)
   unfolding decided
   decided-not-full counter first i last =
-      first-not-full (only (leb counter lastCounter && goodLists first i last) malformed) (ruledRecords cms (segmentIn first i last)) (only-not-full (leb counter lastCounter && goodLists first i last) malformed tt) (records-not-full (segmentIn first i last))
+      first-not-full (only (leb counter lastCounter && goodLists first i last) malformed) (walked (recordVerdict (ruledReference cms)) (segmentIn first i last)) (only-not-full (leb counter lastCounter && goodLists first i last) malformed tt) (records-not-full (ruledReference cms) (reference-not-full cms) (segmentIn first i last))
 
-is-malformed : (v : Verdict) → verdictNo v ≡ 1 → v ≡ malformed
+pub is-malformed : (v : Verdict) → verdictNo v ≡ 1 → v ≡ malformed
 is-malformed fine h = absurd (omega arith)
 is-malformed malformed h = refl
 is-malformed notThere h = absurd (omega arith)
 is-malformed noRule h = absurd (omega arith)
 is-malformed full h = absurd (omega arith)
 
-is-not-there : (v : Verdict) → verdictNo v ≡ 3 → v ≡ notThere
+pub is-not-there : (v : Verdict) → verdictNo v ≡ 3 → v ≡ notThere
 is-not-there fine h = absurd (omega arith)
 is-not-there malformed h = absurd (omega arith)
 is-not-there notThere h = refl
 is-not-there noRule h = absurd (omega arith)
 is-not-there full h = absurd (omega arith)
 
-is-no-rule : (v : Verdict) → NotFull v → (verdictNo v ≡ 1 → ⊥) → (verdictNo v ≡ 3 → ⊥) → (verdictNo v ≡ 0 → ⊥) → v ≡ noRule
+pub is-no-rule : (v : Verdict) → NotFull v → (verdictNo v ≡ 1 → ⊥) → (verdictNo v ≡ 3 → ⊥) → (verdictNo v ≡ 0 → ⊥) → v ≡ noRule
 is-no-rule fine n a b c = absurd (c refl)
 is-no-rule malformed n a b c = absurd (a refl)
 is-no-rule notThere n a b c = absurd (b refl)
@@ -228,7 +231,7 @@ module _ (rules cms : List ℕ) (counter : ℕ) (first i last : List ℕ) (n : �
     unfolding decided
     good = go (leb counter lastCounter && goodLists first i last) is-fine
       where
-        go : (b : Bool) → firstOf (only b malformed) (ruledRecords cms (segmentIn first i last)) ≡ fine → b ≡ true
+        go : (b : Bool) → firstOf (only b malformed) (walked (recordVerdict (ruledReference cms)) (segmentIn first i last)) ≡ fine → b ≡ true
         go true q = refl
         go false q = absurd (let y : _≡_ {A = ℕ} 1 0 = ap verdictNo q in omega arith)
 
@@ -278,13 +281,13 @@ module _ (rules cms : List ℕ) (counter : ℕ) (first i last : List ℕ) (n : �
       unfolding proverVerdict
       verdict = rw (is-fine, le-leb (s .next) lastCounter (fits .0))
 
-      list-is : (l : List ℕ) → Each SoundRecord (recordsIn l) → rewritten (recordIn rules cms (t .plain) (t .primed)) l ≡ listAfter rules cms counter first i last l
+      list-is : (l : List ℕ) → Each SoundRecord (recordsIn l) → rewritten (recordBy (referenceIn rules cms (t .plain) (t .primed))) l ≡ listAfter rules cms counter first i last l
       unfolding listAfter rewritten
       list-is l o = rw (verdict, records-same rules (t .plain) (t .primed) (s .map) (fits .2) cms (recordsIn l) o)
 
       pub answer-done :
-          (first′ i′ last′ : List ℕ) → first′ ≡ rewritten (recordIn rules cms (t .plain) (t .primed)) first → i′ ≡ rewritten (recordIn rules cms (t .plain) (t .primed)) i →
-          last′ ≡ rewritten (recordIn rules cms (t .plain) (t .primed)) last → ProverCodeIs rules cms counter first i last first′ i′ last′ (fixed.Done (t .next))
+          (first′ i′ last′ : List ℕ) → first′ ≡ rewritten (recordBy (referenceIn rules cms (t .plain) (t .primed))) first → i′ ≡ rewritten (recordBy (referenceIn rules cms (t .plain) (t .primed))) i →
+          last′ ≡ rewritten (recordBy (referenceIn rules cms (t .plain) (t .primed))) last → ProverCodeIs rules cms counter first i last first′ i′ last′ (fixed.Done (t .next))
       answer-done first′ i′ last′ ef ei el = record {
         answer = rw (verdict) (ap fixed.Done (fits .1));
         firstIs = ef ∙ list-is first sound-first;

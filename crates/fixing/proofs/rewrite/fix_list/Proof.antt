@@ -5,15 +5,15 @@ use Prim.Native.Nat.{_≤_, _-_}
 use mathlib.Core.Path.{_≡_}
 use native.Mathlib.Omega.{arith}
 use Rattle.kinds.specs.Write.{write}
-use Rattle.fixing.specs.Records.{recordCount}
-use Rattle.fixing.specs.Machine.{recordIn}
+use Rattle.fixing.specs.Records.{recordCount, recordBy}
+use Rattle.fixing.specs.Machine.{referenceIn}
 use Rattle.fixing.specs.Laws.Records.{record-in}
 use Rattle.fixing.specs.Laws.Rewriting.{front, rewrite-begin, rewrite-room, rewrite-length, rewrite-next, rewrite-end}
 use Rattle.fixing.proofs.rewrite.fix_list.Statement.{statement}
 use Rattle.fixing.proofs.rewrite.fix_list.Tie as tie
 
 abbrev Inv-loop : tie.InvT-loop
-Inv-loop rules cms plain primed list₀ count k₀ list k = (k ≤ recordCount list₀) × (list ≡ write list₀ 0 (front (recordIn rules cms plain primed) list₀ k))
+Inv-loop rules cms plain primed list₀ count k₀ list k = (k ≤ recordCount list₀) × (list ≡ write list₀ 0 (front (recordBy (referenceIn rules cms plain primed)) list₀ k))
 
 abbrev μ-loop : tie.MeasureT-loop
 μ-loop rules cms plain primed list₀ count k₀ list k = recordCount list₀ - k

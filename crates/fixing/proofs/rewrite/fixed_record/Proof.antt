@@ -18,7 +18,7 @@ fixed-used-requires-3 : tie.Need-fixed-used-requires-3
 fixed-used-requires-3 c κs = search needs
 
 returns : tie.Need-returns
-returns c = record-fixed _ _ _ _ (c .before .before .before .before .before .before .before .before .args .s) _ _ _ _ (c .before .before .before .before .before .before .fixed-reference .ensures) (c .before .before .before .before .fixed-used .ensures) (c .before .before .fixed-used2 .ensures) (c .fixed-used3 .ensures)
+returns c = record-fixed _ (c .before .before .before .before .before .before .before .before .args .s) _ _ _ _ (c .before .before .before .before .before .before .fixed-reference .ensures) (c .before .before .before .before .fixed-used .ensures) (c .before .before .fixed-used2 .ensures) (c .fixed-used3 .ensures)
 
 pub fixed-record-spec : {M : Type 1} → statement M
 fixed-record-spec =

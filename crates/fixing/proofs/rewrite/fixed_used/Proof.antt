@@ -9,10 +9,10 @@ fixed-reference-requires : tie.Need-fixed-reference-requires
 fixed-reference-requires c κs = search needs
 
 returns : tie.Need-returns
-returns c = used-fixed _ _ _ _ _ (c .before .before .before .args .r) _ (c .before .if1 .taken) (c .fixed-reference .ensures)
+returns c = used-fixed _ _ (c .before .before .before .args .r) _ (c .before .if1 .taken) (c .fixed-reference .ensures)
 
 returns-2 : tie.Need-returns-2
-returns-2 c = unused-fixed _ _ _ _ _ (c .before .before .args .r) (c .if1 .left)
+returns-2 c = unused-fixed _ _ (c .before .before .args .r) (c .if1 .left)
 
 pub fixed-used-spec : {M : Type 1} → statement M
 fixed-used-spec = tie.close (tie.spec fixed-reference-requires returns returns-2)

@@ -7,14 +7,15 @@ use native.Mathlib.Omega.{arith}
 use Rattle.kinds.specs.Steps.{stepsOf}
 use Rattle.fixing.specs.Verdicts.{verdictNo}
 use Rattle.fixing.specs.Records.{recordCount}
-use Rattle.fixing.specs.ProverCode.{ruledRecords}
+use Rattle.fixing.specs.Walks.{walked, recordVerdict}
+use Rattle.fixing.specs.ProverCode.{ruledReference}
 use Rattle.fixing.specs.Laws.Records.{record-in}
 use Rattle.fixing.specs.Laws.Rules.{ruled-begin, ruled-next, ruled-stop, ruled-end}
 use Rattle.fixing.proofs.rules.ruled_list.Statement.{statement}
 use Rattle.fixing.proofs.rules.ruled_list.Tie as tie
 
 abbrev Inv-loop : tie.InvT-loop
-Inv-loop cms list count k₀ k = (k ≤ recordCount list) × (verdictNo (ruledRecords cms (stepsOf list k)) ≡ 0)
+Inv-loop cms list count k₀ k = (k ≤ recordCount list) × (verdictNo (walked (recordVerdict (ruledReference cms)) (stepsOf list k)) ≡ 0)
 
 abbrev μ-loop : tie.MeasureT-loop
 μ-loop cms list count k₀ k = recordCount list - k
