@@ -5,6 +5,7 @@ use mathlib.Core.Path.{_≡_, refl, sym, _∙_, ap, subst}
 use mathlib.Core.Bool.{Bool, true, false, not, cond, _&&_}
 use mathlib.Core.Option.{none}
 use mathlib.Core.List.{List, [], _∷_, _++_}
+use mathlib.Core.Logic.{_⊎_, inl, inr}
 use native.Mathlib.Omega.{arith}
 use lib.ListN.{length, getD, replicate}
 use lib.Dec.{eqb, ltb, leb}
@@ -104,64 +105,70 @@ start-shows n counter h = record {
   primedSize = zeros-length n ∙ h;
 }
 
--- ---- what is decided is never 9
+-- ---- which verdicts a walk has
 
-abbrev pub NotFull : Verdict → Type 0
-NotFull fine = Unit {0}
-NotFull malformed = Unit {0}
-NotFull notThere = Unit {0}
-NotFull noRule = Unit {0}
-NotFull full = ⊥
+-- a walk over records meets 3 and 10 alone
+abbrev pub Met : Verdict → Type 0
+Met fine = Unit {0}
+Met malformed = ⊥
+Met notThere = Unit {0}
+Met noRule = Unit {0}
+Met full = ⊥
 
-pub first-not-full : (v w : Verdict) → NotFull v → NotFull w → NotFull (firstOf v w)
-first-not-full fine w h k = k
-first-not-full malformed w h k = h
-first-not-full notThere w h k = h
-first-not-full noRule w h k = h
-first-not-full full w h k = h
+first-met : (v w : Verdict) → Met v → Met w → Met (firstOf v w)
+first-met fine w h k = k
+first-met malformed w h k = h
+first-met notThere w h k = h
+first-met noRule w h k = h
+first-met full w h k = h
 
-pub only-not-full : (b : Bool) (v : Verdict) → NotFull v → NotFull (only b v)
-only-not-full true v h = tt
-only-not-full false v h = h
+pub only-met : (b : Bool) (v : Verdict) → Met v → Met (only b v)
+only-met true v h = tt
+only-met false v h = h
 
-module _ (cms : List ℕ) where
-  reference-not-full : (r : Reference) → NotFull (ruledReference cms r)
-  unfolding ruledReference
-  reference-not-full r =
-      go _ _ (eqb (r .kind) kind.cm) (only-not-full (ltb (r .id) (length cms)) notThere tt) (only-not-full (not (within kind.tree1 kind.Z (r .kind))) noRule tt)
-    where
-      go : (v w : Verdict) (b : Bool) → NotFull v → NotFull w → NotFull (cond b v w)
-      go v w true h k = h
-      go v w false h k = k
-
-module _ (g : Reference → Verdict) (not-full : (r : Reference) → NotFull (g r)) where
-  used-not-full : (u : Bool) (r : Reference) → NotFull (usedVerdict g u r)
+module _ (g : Reference → Verdict) (met : (r : Reference) → Met (g r)) where
+  used-met : (u : Bool) (r : Reference) → Met (usedVerdict g u r)
   unfolding usedVerdict
-  used-not-full true r = not-full r
-  used-not-full false r = tt
+  used-met true r = met r
+  used-met false r = tt
 
-  record-not-full : (x : Step) → NotFull (recordVerdict g x)
+  record-met : (x : Step) → Met (recordVerdict g x)
   unfolding recordVerdict
-  record-not-full x =
+  record-met x =
       let a = usedVerdict g (ltb 0 (x .count)) (x .s0) in
       let b = usedVerdict g (ltb 1 (x .count)) (x .s1) in
       let c = usedVerdict g (ltb 2 (x .count)) (x .s2) in
       let d = g (x .dest) in
-      let h₂ = first-not-full c d (used-not-full (ltb 2 (x .count)) (x .s2)) (not-full (x .dest)) in
-      let h₁ = first-not-full b (firstOf c d) (used-not-full (ltb 1 (x .count)) (x .s1)) h₂ in
-      let h₀ = first-not-full a (firstOf b (firstOf c d)) (used-not-full (ltb 0 (x .count)) (x .s0)) h₁ in
-      first-not-full (only (runs x) noRule) (firstOf a (firstOf b (firstOf c d))) (only-not-full (runs x) noRule tt) h₀
+      let h₂ = first-met c d (used-met (ltb 2 (x .count)) (x .s2)) (met (x .dest)) in
+      let h₁ = first-met b (firstOf c d) (used-met (ltb 1 (x .count)) (x .s1)) h₂ in
+      let h₀ = first-met a (firstOf b (firstOf c d)) (used-met (ltb 0 (x .count)) (x .s0)) h₁ in
+      first-met (only (runs x) noRule) (firstOf a (firstOf b (firstOf c d))) (only-met (runs x) noRule tt) h₀
 
-  pub records-not-full : (xs : List Step) → NotFull (walked (recordVerdict g) xs)
+  pub walk-met : (xs : List Step) → Met (walked (recordVerdict g) xs)
   unfolding walked
-  records-not-full [] = tt
-  records-not-full (x ∷ xs) = first-not-full (recordVerdict g x) (walked (recordVerdict g) xs) (record-not-full x) (records-not-full xs)
+  walk-met [] = tt
+  walk-met (x ∷ xs) = first-met (recordVerdict g x) (walked (recordVerdict g) xs) (record-met x) (walk-met xs)
 
 module _ (cms : List ℕ) where
-  decided-not-full : (counter : ℕ) (first i last : List ℕ) → NotFull (decided cms counter first i last)
+  reference-met : (r : Reference) → Met (ruledReference cms r)
+  unfolding ruledReference
+  reference-met r =
+      go _ _ (eqb (r .kind) kind.cm) (only-met (ltb (r .id) (length cms)) notThere tt) (only-met (not (within kind.tree1 kind.Z (r .kind))) noRule tt)
+    where
+      go : (v w : Verdict) (b : Bool) → Met v → Met w → Met (cond b v w)
+      go v w true h k = h
+      go v w false h k = k
+
+  -- what is decided is 1, or what the walk meets
+  decided-cases : (counter : ℕ) (first i last : List ℕ) → (decided cms counter first i last ≡ malformed) ⊎ Met (decided cms counter first i last)
   unfolding decided
-  decided-not-full counter first i last =
-      first-not-full (only (leb counter lastCounter && goodLists first i last) malformed) (walked (recordVerdict (ruledReference cms)) (segmentIn first i last)) (only-not-full (leb counter lastCounter && goodLists first i last) malformed tt) (records-not-full (ruledReference cms) (reference-not-full cms) (segmentIn first i last))
+  decided-cases counter first i last = go (leb counter lastCounter && goodLists first i last)
+    where
+      go : (b : Bool) →
+          (firstOf (only b malformed) (walked (recordVerdict (ruledReference cms)) (segmentIn first i last)) ≡ malformed)
+          ⊎ Met (firstOf (only b malformed) (walked (recordVerdict (ruledReference cms)) (segmentIn first i last)))
+      go true = inr (walk-met (ruledReference cms) reference-met (segmentIn first i last))
+      go false = inl refl
 
 pub is-malformed : (v : Verdict) → verdictNo v ≡ 1 → v ≡ malformed
 is-malformed fine h = absurd (omega arith)
@@ -177,12 +184,12 @@ is-not-there notThere h = refl
 is-not-there noRule h = absurd (omega arith)
 is-not-there full h = absurd (omega arith)
 
-pub is-no-rule : (v : Verdict) → NotFull v → (verdictNo v ≡ 1 → ⊥) → (verdictNo v ≡ 3 → ⊥) → (verdictNo v ≡ 0 → ⊥) → v ≡ noRule
-is-no-rule fine n a b c = absurd (c refl)
-is-no-rule malformed n a b c = absurd (a refl)
-is-no-rule notThere n a b c = absurd (b refl)
-is-no-rule noRule n a b c = refl
-is-no-rule full n a b c = absurd n
+pub is-no-rule : (v : Verdict) → Met v → (verdictNo v ≡ 3 → ⊥) → (verdictNo v ≡ 0 → ⊥) → v ≡ noRule
+is-no-rule fine n b c = absurd (c refl)
+is-no-rule malformed n b c = absurd n
+is-no-rule notThere n b c = absurd (b refl)
+is-no-rule noRule n b c = refl
+is-no-rule full n b c = absurd n
 
 -- ---- the ways through the code
 
@@ -218,8 +225,12 @@ module _ (rules cms : List ℕ) (counter : ℕ) (first i last : List ℕ) (n : �
     pub answer-no-rule : (n ≡ 3 → ⊥) → (n ≡ 0 → ⊥) → ProverCodeIs rules cms counter first i last first i last fixed.NoRule
     unfolding proverVerdict
     answer-no-rule b c =
-        let q : v ≡ noRule = is-no-rule v (decided-not-full cms counter first i last) (λ z. a (en ∙ z)) (λ z. b (en ∙ z)) (λ z. c (en ∙ z)) in
+        let q : v ≡ noRule = rule (decided-cases cms counter first i last) in
         unchanged noRule fixed.NoRule (rw q) (λ z. let y : _≡_ {A = ℕ} 10 0 = ap verdictNo z in omega arith) refl
+      where
+        rule : (v ≡ malformed) ⊎ Met v → v ≡ noRule
+        rule (inl w) = absurd (a (en ∙ ap verdictNo w))
+        rule (inr w) = is-no-rule v w (λ z. b (en ∙ z)) (λ z. c (en ∙ z))
 
   -- nothing is refused before temporaries are counted
   module _ (z : n ≡ 0) (size : ℕ) (es : size ≡ idLimit) (t : Tables) (et : t ≡ giveRecords rules (segmentIn first i last) (tables (zeros size) (zeros size) counter))
