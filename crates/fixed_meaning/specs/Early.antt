@@ -1,16 +1,15 @@
 -- A list that reads nothing early, renamed, reads nothing early; and so a fixed list, where an intermediate's column counts as having no value.
 -- Assumes nothing.
-use mathlib.Core.Path.{_≡_, refl, ap}
+use mathlib.Core.Path.{_≡_}
 use Prim.Native.Nat.{ℕ, zero, suc}
 use mathlib.Core.List.{List, [], _∷_}
 use mathlib.Core.Logic.{inl, inr}
 use Rattle.meaning.specs.Trees.{RowKind, Each, Member, upTo}
 use Rattle.meaning.specs.Steps.{Kind, Cell, place, Ref, Step}
 use Rattle.meaning.specs.Demand3.{Ungiven, Written, needs, writing, NoEarlyRead}
-use Rattle.meaning.specs.Values.{Given}
 use Rattle.fixed_meaning.specs.Fixing.{Plan, Map, renameRef, fixCell}
 use Rattle.fixed_meaning.specs.Demand3Fixed.{Unset, WrittenOf, NoEarlyReadOf}
-use Rattle.fixed_meaning.specs.Renaming.{renameRefs, rename, InRef, InStep, In}
+use Rattle.fixed_meaning.specs.Renaming.{renameRefs, rename, InRef, In}
 use Rattle.fixed_meaning.specs.OneToOne.{Occurs}
 
 -- `together`: cells of one place have one place renamed

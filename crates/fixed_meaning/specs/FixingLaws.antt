@@ -9,11 +9,11 @@ use mathlib.Core.Logic.{_⊎_, inl, inr}
 use native.Mathlib.Omega.{arith}
 use lib.Dec.{eqb}
 use borrow.Author.Tests.{eqb-true}
-use Rattle.meaning.specs.Trees.{RowKind, Each}
+use Rattle.meaning.specs.Trees.{Each}
 use Rattle.meaning.specs.Steps.{Kind, Cell, Ref, Step, step, expCell}
 use Rattle.meaning.specs.Building.{Segment}
 use Rattle.meaning.specs.Laws.Tests.{eqb-same, and-left, and-right}
-use Rattle.fixed_meaning.specs.Fixing.{Plan, Map, Fixing, begin, become, given, grow, renameRef, Fixed, fixCell, meetCell, meet, fixRef, fixRefs, fixStep, fixList, fixEnd, fixSegment}
+use Rattle.fixed_meaning.specs.Fixing.{Plan, Map, Fixing, begin, become, given, grow, renameRef, fixCell, meetCell, fixRef, fixRefs, fixStep, fixList, fixEnd, fixSegment}
 use Rattle.fixed_meaning.specs.Demand3Fixed.{NotExp}
 use Rattle.fixed_meaning.specs.Renaming.{renameRefs, renameStep, rename, InRef, InStep, In}
 

@@ -1,6 +1,6 @@
 -- The cells of a list that requests without results generate.
 -- Assumes nothing.
-use Prim.Native.Nat.{ℕ, suc, _+_, _≤_, _<_}
+use Prim.Native.Nat.{ℕ, suc, _+_, _≤_}
 use mathlib.Core.Path.{_≡_, refl, subst}
 use mathlib.Core.Bool.{Bool, true, false, cond}
 use mathlib.Core.Option.{Option, none, some, Option·some-ne-none}
@@ -8,7 +8,7 @@ use mathlib.Core.List.{List, [], _∷_, _++_}
 use native.Mathlib.Omega.{arith}
 use Rattle.meaning.specs.Refusals.{done}
 use Rattle.meaning.specs.Trees.{RowKind, Leaf, Expr, Expression, Forest, nth, Placed, _at_, leaves, Each}
-use Rattle.meaning.specs.Steps.{Kind, Cell, Ref, StepOp, Step, expCell}
+use Rattle.meaning.specs.Steps.{Kind, Cell, Ref, Step, expCell}
 use Rattle.meaning.specs.Emission.{leafRef, Own, Emitted, Settled, settle, settled, emit, rootStep, blockSteps}
 use Rattle.meaning.specs.Order.{Job, Asked, asked, there, ask}
 use Rattle.meaning.specs.Generation.{Block, State, start, Result, Request, makeOne, make, plainResult, adding, copyOut, generate, serve, serveAll}

@@ -1,21 +1,21 @@
 -- EXACTLY WHEN fixing answers 10 and 3; and only one outcome fits its contract.
 -- Assumes nothing.
-use Prim.Native.Nat.{ℕ, zero, suc, _≤_, _<_}
-use mathlib.Core.Path.{_≡_, refl, sym, _∙_, ap, subst}
-use mathlib.Core.Bool.{Bool, true, false, not, cond, _&&_}
-use mathlib.Core.List.{List, [], _∷_, _++_, append-assoc}
+use Prim.Native.Nat.{ℕ, zero, suc}
+use mathlib.Core.Path.{_≡_, refl, sym, _∙_, ap}
+use mathlib.Core.Bool.{Bool, true, false, not, _&&_}
+use mathlib.Core.List.{List, [], _∷_, _++_}
 use mathlib.Core.Logic.{_⊎_, inl, inr, _↔_}
 use native.Mathlib.Omega.{arith}
 use lib.ListN.{length}
 use lib.Dec.{eqb, ltb, leb}
-use borrow.Author.Tests.{eqb-true, eq-eqb, ne-eqb, eqb-false, lt-ltb, le-ltb, ltb-true, ltb-false, le-leb, lt-leb, leb-true, leb-false}
+use borrow.Author.Tests.{eqb-true, eq-eqb, ne-eqb, eqb-false, lt-ltb, le-ltb, ltb-false, le-leb, leb-true}
 use Rattle.kinds.specs.KindBytes as kind
 use Rattle.kinds.specs.StepOps.{isStep, sourcesNeeded}
 use Rattle.kinds.specs.Range.{within, within-true, within-in}
 use Rattle.kinds.specs.declared.reference.Reference.{Reference}
 use Rattle.kinds.specs.declared.step.Step.{Step}
 use Rattle.meaning.specs.Trees.{Each, upTo}
-use Rattle.meaning.specs.Laws.Tests.{true-false, and-left, and-right, each-map}
+use Rattle.meaning.specs.Laws.Tests.{true-false, and-left, and-right}
 use Rattle.fixing.specs.Verdicts.{Verdict, fine, malformed, notThere, noRule, full, verdictNo, firstOf, only}
 use Rattle.fixing.specs.Records.{segmentIn, countedIn, goodLists, runs}
 use Rattle.fixing.specs.Walks.{walked, usedVerdict, recordVerdict}

@@ -10,3 +10,4 @@ pub mod Laws
 pub mod Joined
 pub mod Conditions
 pub mod Exactly
+pub mod Examples

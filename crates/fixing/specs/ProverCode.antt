@@ -11,7 +11,7 @@ use Rattle.kinds.specs.Range.{within}
 use Rattle.kinds.specs.declared.reference.Reference.{Reference}
 use Rattle.kinds.specs.declared.step.Step.{Step}
 use Rattle.fixed_meaning.specs.Fixing.{Plan, Map, Fixing, begin, grow}
-use Rattle.fixing.specs.Verdicts.{Verdict, fine, malformed, notThere, noRule, full, firstOf, only, ifFine}
+use Rattle.fixing.specs.Verdicts.{Verdict, malformed, notThere, noRule, full, firstOf, only, ifFine}
 use Rattle.fixing.specs.Records.{segmentIn, goodLists, recordBy, rewritten}
 use Rattle.fixing.specs.Walks.{walked, recordVerdict}
 

@@ -12,7 +12,7 @@ ghost use mathlib.Core.Path.{_≡_};
 ghost use Rattle.fixing.specs.Verdicts.{verdictNo};
 ghost use Rattle.fixing.specs.Records.{recordsIn, segmentIn, usedBy, recordBy, rewritten};
 ghost use Rattle.fixing.specs.Walks.{walked, usedVerdict, recordVerdict};
-ghost use Rattle.query_fixing.specs.QueryCode.{treeFor, treeKind, treePosition, treeDim, hasTree, treedReference, treeReference};
+ghost use Rattle.query_fixing.specs.QueryCode.{treeFor, hasTree, treedReference, treeReference};
 
 const NO_RULE: u8 = 10;
 

@@ -1,22 +1,17 @@
 -- Laws of rewriting: a reference by the tables, and a list record by record in place.
 -- Assumes nothing.
-use Prim.Native.Nat.{ℕ, zero, suc, _+_, _*_, _-_, _<_, _≤_}
-use mathlib.Core.Path.{_≡_, refl, sym, _∙_, ap}
-use mathlib.Core.Bool.{Bool, true, false}
+use Prim.Native.Nat.{ℕ, zero, suc, _+_, _*_, _-_, _≤_}
+use mathlib.Core.Path.{_≡_, refl, _∙_, ap}
 use mathlib.Core.List.{List, [], _∷_, _++_}
-use mathlib.Core.Logic.{inl, inr}
+use mathlib.Core.Logic.{inr}
 use native.Mathlib.Nat.{zero-add}
 use native.Mathlib.Numerals.{add-one}
 use native.Mathlib.Omega.{arith}
 use lib.ListN.{length, getD}
-use lib.Dec.{eqb, ltb}
-use borrow.Author.Tests.{eq-eqb, ne-eqb}
-use Rattle.kinds.specs.KindBytes as kind
 use Rattle.kinds.specs.Write.{write, write-none, write-length, write-then}
 use Rattle.kinds.specs.Steps.{stepSize, stepAt, stepBytes, stepsOf, stepsBytes, step-kept, steps-none, steps-more, steps-length, steps-bytes-none, steps-bytes-one, steps-bytes-length, steps-bytes-append}
-use Rattle.kinds.specs.declared.reference.Reference.{Reference}
 use Rattle.kinds.specs.declared.step.Step.{Step}
-use Rattle.fixing.specs.Records.{recordCount, recordsIn, mapped, rewritten}
+use Rattle.fixing.specs.Records.{recordCount, mapped, rewritten}
 
 pub past-the-end : (l : List ℕ) (i : ℕ) → length l ≤ i → 0 ≡ getD l i 0
 past-the-end [] i h = refl

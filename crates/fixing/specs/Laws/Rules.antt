@@ -7,14 +7,14 @@ use mathlib.Core.List.{List, [], _∷_, _++_}
 use native.Mathlib.Numerals.{add-one}
 use native.Mathlib.Omega.{arith}
 use lib.ListN.{length, drop}
-use lib.Dec.{ltb, leb}
+use lib.Dec.{ltb}
 use borrow.Author.Tests.{lt-ltb, le-ltb, eq-eqb, ne-eqb, le-leb, lt-leb}
 use Rattle.kinds.specs.KindBytes as kind
-use Rattle.kinds.specs.Range.{within, within-in, within-below, within-above}
+use Rattle.kinds.specs.Range.{within-in, within-below, within-above}
 use Rattle.kinds.specs.Steps.{stepSize, stepAt, stepsOf, steps-none, steps-more, steps-split}
 use Rattle.kinds.specs.declared.reference.Reference.{Reference}
 use Rattle.kinds.specs.declared.step.Step.{Step}
-use Rattle.fixing.specs.Verdicts.{Verdict, fine, notThere, noRule, verdictNo, firstOf}
+use Rattle.fixing.specs.Verdicts.{Verdict, verdictNo, firstOf}
 use Rattle.fixing.specs.Records.{recordCount, recordsIn, segmentIn, goodLists, runs}
 use Rattle.fixing.specs.Walks.{walked, usedVerdict, recordVerdict}
 use Rattle.fixing.specs.ProverCode.{lastCounter, ruledReference, decided}

@@ -1,22 +1,22 @@
 -- The tables track fixing: they show the map of new temporaries, or the counter is past its limit; and rewriting by them is rewriting by the map.
 -- Assumes nothing.
-use Prim.Native.Nat.{ℕ, zero, suc, _+_, _*_, _-_, _<_, _≤_}
-use mathlib.Core.Path.{_≡_, refl, sym, _∙_, ap, subst}
+use Prim.Native.Nat.{ℕ, zero, suc, _+_, _-_, _<_, _≤_}
+use mathlib.Core.Path.{_≡_, refl, sym, _∙_, subst}
 use mathlib.Core.Bool.{Bool, true, false, not, cond, _&&_}
 use mathlib.Core.Option.{Option, none, some}
-use mathlib.Core.List.{List, [], _∷_, _++_}
+use mathlib.Core.List.{List, [], _∷_}
 use native.Mathlib.Omega.{arith}
 use lib.ListN.{length, getD, set, length-set}
 use lib.Seq.{getD-set-same, getD-set-other}
 use lib.Dec.{eqb, ltb, leb}
-use borrow.Author.Tests.{eq-eqb, ne-eqb, eqb-true, eqb-false, le-leb, lt-leb, leb-true, leb-false}
+use borrow.Author.Tests.{ne-eqb, eqb-true, eqb-false, leb-true, leb-false}
 use Rattle.kinds.specs.KindBytes as kind
 use Rattle.kinds.specs.declared.reference.Reference.{Reference}
 use Rattle.kinds.specs.declared.step.Step.{Step}
 use Rattle.meaning.specs.Trees.{Each}
-use Rattle.fixed_meaning.specs.Fixing.{Plan, Map, Fixing, begin, given, grow}
+use Rattle.fixed_meaning.specs.Fixing.{Plan, Map, Fixing, grow}
 use Rattle.fixing.specs.Records.{recordBy, usedBy, mapped}
-use Rattle.fixing.specs.ProverCode.{lastCounter, ruleKind, ruleId, ruleDim, ruleFor, idWhere, planOf, meetReference, meetUsed, meetRecord, meetRecords, fixExpression, fixReference, fixRecord}
+use Rattle.fixing.specs.ProverCode.{lastCounter, ruleKind, ruleId, ruleDim, ruleFor, planOf, meetReference, meetUsed, meetRecord, meetRecords, fixExpression, fixReference, fixRecord}
 use Rattle.fixing.specs.Machine.{takesTemporary, over, tableAfter, counterAfter, Tables, tables, giveReference, giveUsed, giveRecord, giveRecords, temporaryIn, tmpFrom, expressionIn, referenceIn}
 
 -- how many ids there are

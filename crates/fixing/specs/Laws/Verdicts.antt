@@ -1,9 +1,8 @@
 -- Laws of verdicts: which of two goes on, and what a number says.
 -- Assumes nothing.
-use Prim.Native.Nat.{ℕ}
 use mathlib.Core.Path.{_≡_, refl}
 use native.Mathlib.Omega.{arith}
-use Rattle.fixing.specs.Verdicts.{Verdict, fine, malformed, notThere, noRule, full, verdictNo, firstOf, ifFine}
+use Rattle.fixing.specs.Verdicts.{Verdict, fine, malformed, notThere, noRule, full, verdictNo, firstOf}
 
 pub goes-on : (v w : Verdict) → verdictNo v ≡ 0 → firstOf v w ≡ w
 goes-on fine w h = refl

@@ -3,7 +3,6 @@
 use Prim.Native.Nat.{ℕ, zero, suc, _+_, _*_, _%_, _<_, _≤_}
 use mathlib.Core.Path.{_≡_, refl, sym, _∙_, ap, subst}
 use mathlib.Core.Bool.{Bool, true, false, not, cond, _&&_}
-use mathlib.Core.Option.{none}
 use mathlib.Core.List.{List, [], _∷_, _++_}
 use mathlib.Core.Logic.{_⊎_, inl, inr}
 use native.Mathlib.Omega.{arith}
@@ -22,14 +21,14 @@ use Rattle.meaning.specs.Trees.{Each}
 use Rattle.meaning.specs.Laws.Tests.{true-false, and-left, and-right, each-join}
 use Rattle.fixed_meaning.specs.Fixing.{Fixing, begin}
 use Rattle.fixing.specs.Verdicts.{Verdict, fine, malformed, notThere, noRule, full, verdictNo, firstOf, only}
-use Rattle.fixing.specs.Records.{recordCount, recordsIn, segmentIn, goodReference, goodUsed, goodRecord, goodRecords, goodList, goodLists, runs, recordBy, mapped, rewritten}
+use Rattle.fixing.specs.Records.{recordCount, recordsIn, segmentIn, goodReference, goodUsed, goodRecord, goodRecords, goodList, goodLists, runs, recordBy, rewritten}
 use Rattle.fixing.specs.Walks.{walked, usedVerdict, recordVerdict}
-use Rattle.fixing.specs.ProverCode.{lastCounter, planOf, ruledReference, fixRecord, decided, temporaries, proverVerdict, listAfter}
+use Rattle.fixing.specs.ProverCode.{lastCounter, ruledReference, decided, temporaries, proverVerdict, listAfter}
 use Rattle.fixing.specs.Machine.{over, Tables, tables, giveRecords, referenceIn}
 use Rattle.fixing.specs.Answers.{ProverCodeIs, fixedOf}
 use Rattle.fixing.specs.declared.fix_prover_code.Fixed.{Fixed}
 use Rattle.fixing.specs.declared.fix_prover_code.Fixed.the-variants as fixed
-use Rattle.fixing.specs.Laws.Verdicts.{goes-on, stops, no-refusal}
+use Rattle.fixing.specs.Laws.Verdicts.{no-refusal}
 use Rattle.fixing.specs.Laws.Records.{good-more}
 use Rattle.fixing.specs.Laws.Tracks.{idLimit, Shows, Tracks, exact, past, Sound, SoundIf, SoundRecord, track-records, records-same}
 

@@ -1,17 +1,16 @@
 -- Laws of the query code's walk: what each way through the code answers.
 -- Assumes nothing.
 use Prim.Native.Nat.{ℕ, _/_, _%_, _<_, _≤_}
-use mathlib.Core.Path.{_≡_, refl, sym, _∙_, ap, subst}
+use mathlib.Core.Path.{_≡_, refl, sym, _∙_, ap}
 use mathlib.Core.Bool.{Bool, true, false, cond}
 use mathlib.Core.List.{List}
 use native.Mathlib.Omega.{arith}
-use lib.ListN.{length, getD}
 use lib.Dec.{eqb, leb}
-use borrow.Author.Tests.{eq-eqb, ne-eqb, le-leb, lt-leb}
+use borrow.Author.Tests.{eq-eqb, ne-eqb, le-leb}
 use Rattle.kinds.specs.KindBytes as kind
 use Rattle.kinds.specs.Range.{within, within-below}
 use Rattle.kinds.specs.declared.reference.Reference.{Reference}
-use Rattle.fixing.specs.Verdicts.{Verdict, fine, malformed, notThere, noRule, full, verdictNo, firstOf, only}
+use Rattle.fixing.specs.Verdicts.{Verdict, fine, malformed, notThere, noRule, full, verdictNo, only}
 use Rattle.fixing.specs.Records.{segmentIn, goodLists, recordBy, rewritten}
 use Rattle.fixing.specs.Walks.{walked, recordVerdict}
 use Rattle.fixing.specs.Laws.Whole.{Met, walk-met, is-not-there, is-no-rule}
@@ -110,3 +109,17 @@ module _ (trees : List ℕ) where
       query-done k first′ i′ last′ ef ei el =
           let q : queryVerdict trees first i last ≡ fine = verdict-is ∙ no-refusal v (sym en ∙ k) in
           record { answer = rw q; firstIs = ef ∙ rw q; iIs = ei ∙ rw q; lastIs = el ∙ rw q }
+
+-- ONLY ONE OUTCOME FITS
+one-answer : (w : Verdict) (r r′ : Queried) → Says w r → Says w r′ → r ≡ r′
+one-answer fine r r′ h k = h ∙ sym k
+one-answer malformed r r′ h k = h ∙ sym k
+one-answer notThere r r′ h k = h ∙ sym k
+one-answer noRule r r′ h k = h ∙ sym k
+one-answer full r r′ h k = absurd h
+
+pub one-query-outcome :
+    (trees first i last a b c a′ b′ c′ : List ℕ) (r r′ : Queried) → QueryCodeIs trees first i last a b c r → QueryCodeIs trees first i last a′ b′ c′ r′ →
+    (r ≡ r′) × (a ≡ a′) × (b ≡ b′) × (c ≡ c′)
+one-query-outcome trees first i last a b c a′ b′ c′ r r′ x y =
+    (one-answer (queryVerdict trees first i last) r r′ (x .answer) (y .answer), x .firstIs ∙ sym (y .firstIs), x .iIs ∙ sym (y .iIs), x .lastIs ∙ sym (y .lastIs))

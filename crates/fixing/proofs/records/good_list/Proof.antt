@@ -1,6 +1,5 @@
 -- `fixing::records::good_list` meets its contract: the records before k are well formed.
 -- Assumes nothing.
-use borrow.Author.Needs.{needs}
 use borrow.Author.Tests.{not-true, not-false}
 use Prim.Native.Nat.{_≤_, _-_}
 use mathlib.Core.Path.{_≡_}

@@ -1,6 +1,5 @@
 -- `fixing::rules::ruled_list` meets its contract: nothing is refused of the records before k.
 -- Assumes nothing.
-use borrow.Author.Needs.{needs}
 use Prim.Native.Nat.{_≤_, _-_}
 use mathlib.Core.Path.{_≡_}
 use native.Mathlib.Omega.{arith}

@@ -1,7 +1,6 @@
 -- `fixing::rules::ruled_record` meets its contract: each way through the code is one law of specs/Laws/Rules.antt.
 -- Assumes nothing.
 use borrow.Author.Tests.{not-true, not-false}
-use native.Mathlib.Omega.{arith}
 use Rattle.fixing.specs.Laws.Rules.{step-ruleless, first-refused, second-refused, third-refused, dest-decides}
 use borrow.Author.Needs.{needs}
 use Rattle.fixing.proofs.rules.ruled_record.Statement.{statement}

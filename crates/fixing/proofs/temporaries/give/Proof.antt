@@ -1,6 +1,5 @@
 -- `fixing::temporaries::give` meets its contract.
 -- Assumes nothing.
-use native.Mathlib.Omega.{arith}
 use Rattle.fixing.specs.Laws.Giving.{given-before, given-over, given-next}
 use borrow.Author.Needs.{needs}
 use Rattle.fixing.proofs.temporaries.give.Statement.{statement}

@@ -1,6 +1,5 @@
 -- `fixing::temporaries::give_list` meets its contract: the tables are those of the records before k.
 -- Assumes nothing.
-use borrow.Author.Needs.{needs}
 use Prim.Native.Nat.{_≤_, _-_}
 use mathlib.Core.Path.{_≡_}
 use native.Mathlib.Omega.{arith}

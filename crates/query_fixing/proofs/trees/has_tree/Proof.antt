@@ -1,6 +1,5 @@
 -- `query_fixing::trees::has_tree` meets its contract.
 -- Assumes nothing.
-use borrow.Author.Needs.{needs}
 use Rattle.query_fixing.specs.Laws.Trees.{low-kind, high-kind}
 use Rattle.query_fixing.proofs.trees.has_tree.Statement.{statement}
 use Rattle.query_fixing.proofs.trees.has_tree.Tie as tie

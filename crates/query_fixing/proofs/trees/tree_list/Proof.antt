@@ -1,6 +1,5 @@
 -- `query_fixing::trees::tree_list` meets its contract: the records before k are rewritten, and the others as they were.
 -- Assumes nothing.
-use borrow.Author.Needs.{needs}
 use Prim.Native.Nat.{_≤_, _-_}
 use mathlib.Core.Path.{_≡_}
 use native.Mathlib.Omega.{arith}
