@@ -6,3 +6,4 @@ pub mod Rewriting
 pub mod Expressions
 pub mod Tracks
 pub mod Whole
+pub mod Joined

@@ -7,7 +7,7 @@ pub mod Machine
 pub mod Answers
 pub mod Decoding
 pub mod Laws
-pub mod Joined
+pub mod Said
 pub mod Conditions
 pub mod Exactly
 pub mod Examples

@@ -1,4 +1,4 @@
--- THE RECORDS THAT FIXING LEAVES SAY THE STEPS THAT FIXING GIVES: for lists whose records say steps, the fixed records say those of fixSegment.
+-- Records and the steps that they say are fixed alike: reference by reference, record by record, list by list.
 -- Assumes nothing.
 use Prim.Native.Nat.{ℕ, zero, suc, _+_, _*_, _/_, _%_, _≤_}
 use mathlib.Core.Path.{_≡_, refl, sym, _∙_, ap, subst}
@@ -25,9 +25,9 @@ use Rattle.meaning.specs.Laws.Tests.{true-false, and-left, and-right, bind-some
 use Rattle.fixed_meaning.specs.Fixing.{Plan, Map, Fixing, begin, become, renameRef, fixCell, meetCell, meet, fixRefs, fixStep, fixList, fixEnd, fixSegment}
 use Rattle.fixed_meaning.specs.Renaming.{renameRefs, renameStep, rename}
 use Rattle.fixed_meaning.specs.FixingLaws.{segment-renamed}
-use Rattle.fixing.specs.Verdicts.{Verdict, fine, malformed, notThere, noRule, full, verdictNo, firstOf, only}
+use Rattle.fixing.specs.Verdicts.{fine}
 use Rattle.fixing.specs.Records.{recordCount, recordsIn, countedIn, goodReference, goodUsed, goodRecord, goodRecords, goodList, goodLists, recordBy, usedBy, mapped, rewritten}
-use Rattle.fixing.specs.ProverCode.{ruleFor, ruleDim, planOf, meetReference, meetUsed, meetRecord, meetRecords, fixExpression, placed, fixReference, fixRecord, lastCounter, decided, temporaries, proverVerdict, listAfter}
+use Rattle.fixing.specs.ProverCode.{ruleFor, ruleDim, planOf, meetReference, meetUsed, meetRecord, meetRecords, fixExpression, placed, fixReference, fixRecord, temporaries, proverVerdict, listAfter}
 use Rattle.fixing.specs.Decoding.{kindFrom, opFrom, refFrom, refsFrom, stepFrom, stepsFrom}
 use Rattle.fixing.specs.Laws.Rewriting.{mapped-length}
 
@@ -48,7 +48,7 @@ isExpIn none = false
 isExpIn (some k) = isExp k
 
 -- of the bytes of references, exp's alone is that of exp
-reference-range : (b : ℕ) → isReference b ≡ true → b ≤ kind.Z
+pub reference-range : (b : ℕ) → isReference b ≡ true → b ≤ kind.Z
 unfolding isReference isLeaf
 reference-range b h = go (within kind.cm kind.x b) refl (within kind.tmp kind.Z b) refl h
   where
@@ -195,7 +195,7 @@ module _ (literal : ℕ → Lit) (rules cms : List ℕ) where
   fixAll m [] = []
   fixAll m (r ∷ rs) = fixReference rules cms m r ∷ fixAll m rs
 
-  abbrev Good : Reference → Type 0
+  abbrev pub Good : Reference → Type 0
   Good r = goodReference r ≡ true
 
   -- in the order in which they stand
@@ -217,7 +217,7 @@ module _ (literal : ℕ → Lit) (rules cms : List ℕ) where
   counted-fixed m (suc (suc (suc zero))) h a b d = refl
   counted-fixed m (suc (suc (suc (suc c)))) h a b d = absurd (omega arith)
 
-  counted-good : (c : ℕ) → c ≤ 3 → (a b d : Reference) → goodUsed (ltb 0 c) a ≡ true → goodUsed (ltb 1 c) b ≡ true → goodUsed (ltb 2 c) d ≡ true → Each Good (upTo c (a ∷ b ∷ d ∷ []))
+  pub counted-good : (c : ℕ) → c ≤ 3 → (a b d : Reference) → goodUsed (ltb 0 c) a ≡ true → goodUsed (ltb 1 c) b ≡ true → goodUsed (ltb 2 c) d ≡ true → Each Good (upTo c (a ∷ b ∷ d ∷ []))
   unfolding goodUsed
   counted-good zero n a b d h k l = tt
   counted-good (suc zero) n a b d h k l = (h, tt)
@@ -377,41 +377,3 @@ pub list-fixed :
     recordsIn (listAfter rules cms counter first i last l) ≡ mapped (fixRecord rules cms (temporaries rules counter first i last .map)) (recordsIn l)
 unfolding listAfter
 list-fixed rules cms counter first i last l h = rw h (records-rewritten (fixRecord rules cms (temporaries rules counter first i last .map)) l)
-
--- ---- the whole
-
-first-is-fine : (v w : Verdict) → firstOf v w ≡ fine → v ≡ fine
-first-is-fine fine w h = refl
-first-is-fine malformed w h = h
-first-is-fine notThere w h = h
-first-is-fine noRule w h = h
-first-is-fine full w h = h
-
--- what is not refused is well formed
-pub accepted-good : (rules cms : List ℕ) (counter : ℕ) (first i last : List ℕ) → proverVerdict rules cms counter first i last ≡ fine → goodLists first i last ≡ true
-unfolding proverVerdict decided
-accepted-good rules cms counter first i last h = go (leb counter lastCounter && goodLists first i last) refl (first-is-fine _ _ (first-is-fine _ _ h))
-  where
-    go : (b : Bool) → (leb counter lastCounter && goodLists first i last) ≡ b → only b malformed ≡ fine → goodLists first i last ≡ true
-    go true e q = and-right (leb counter lastCounter) (goodLists first i last) e
-    go false e q = absurd (let y : _≡_ {A = ℕ} 1 0 = ap verdictNo q in omega arith)
-
--- THE LISTS AFTER fix_prover_code SAY THE STEPS OF fixSegment, where it refuses nothing and the lists before it say those of a segment
-pub record SaysFixed (literal : ℕ → Lit) (rules cms : List ℕ) (counter : ℕ) (first i last : List ℕ) (S : Segment) : Type 0 where
-  pub firstSays : stepsFrom literal (recordsIn (listAfter rules cms counter first i last first)) ≡ some (fixSegment (planOf rules) S .first)
-  pub iSays : stepsFrom literal (recordsIn (listAfter rules cms counter first i last i)) ≡ some (fixSegment (planOf rules) S .i)
-  pub lastSays : stepsFrom literal (recordsIn (listAfter rules cms counter first i last last)) ≡ some (fixSegment (planOf rules) S .last)
-  pub counterIs : temporaries rules counter first i last .next ≡ fixSegment (planOf rules) S .counter
-
-pub says-fixed :
-    (literal : ℕ → Lit) (rules cms : List ℕ) (counter : ℕ) (first i last : List ℕ) → proverVerdict rules cms counter first i last ≡ fine → (S : Segment) → S .counter ≡ counter →
-    stepsFrom literal (recordsIn first) ≡ some (S .first) → stepsFrom literal (recordsIn i) ≡ some (S .i) → stepsFrom literal (recordsIn last) ≡ some (S .last) →
-    SaysFixed literal rules cms counter first i last S
-says-fixed literal rules cms counter first i last h S same ef ei el =
-    let j = fixed-records-say literal rules cms counter first i last (accepted-good rules cms counter first i last h) S same ef ei el in
-    record {
-      firstSays = ap (stepsFrom literal) (list-fixed rules cms counter first i last first h) ∙ j .firstSays;
-      iSays = ap (stepsFrom literal) (list-fixed rules cms counter first i last i h) ∙ j .iSays;
-      lastSays = ap (stepsFrom literal) (list-fixed rules cms counter first i last last h) ∙ j .lastSays;
-      counterIs = j .counterIs;
-    }
