@@ -5,7 +5,7 @@ use mathlib.Core.Path.{_≡_}
 use mathlib.Core.Option.{none}
 use mathlib.Core.List.{List}
 use Rattle.meaning.specs.Refusals.{Refusal, Answer, done, refused}
-use Rattle.fixing.specs.Verdicts.{Verdict, fine, malformed, notThere, noRule, full}
+use Rattle.lent_lists.specs.Verdicts.{Verdict, fine, malformed, notThere, noRule, full}
 use Rattle.fixing.specs.ProverCode.{temporaries, proverVerdict, listAfter}
 use Rattle.fixing.specs.declared.fix_prover_code.Fixed.{Fixed}
 use Rattle.fixing.specs.declared.fix_prover_code.Fixed.the-variants as fixed

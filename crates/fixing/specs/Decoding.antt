@@ -12,7 +12,7 @@ use Rattle.kinds.specs.declared.step.Step as bytes
 use Rattle.meaning.specs.Trees.{Lit, RowKind, FlatKind, XKind}
 use Rattle.meaning.specs.Values.{bind}
 use Rattle.meaning.specs.Steps.{BareKind, Kind, Cell, Ref, StepOp, Step, step}
-use Rattle.fixing.specs.Records.{countedIn}
+use Rattle.lent_lists.specs.Records.{countedIn}
 
 -- document 01's kind bytes, but number's
 unfoldable pub kindFrom : ℕ → Option Kind

@@ -16,14 +16,14 @@ use Rattle.kinds.specs.declared.reference.Reference.{Reference}
 use Rattle.kinds.specs.declared.step.Step.{Step}
 use Rattle.meaning.specs.Trees.{Each, upTo}
 use Rattle.meaning.specs.Laws.Tests.{true-false, and-left, and-right}
-use Rattle.fixing.specs.Verdicts.{Verdict, fine, malformed, notThere, noRule, full, verdictNo, firstOf, only}
-use Rattle.fixing.specs.Records.{segmentIn, countedIn, goodLists, runs}
-use Rattle.fixing.specs.Walks.{walked, usedVerdict, recordVerdict}
+use Rattle.lent_lists.specs.Verdicts.{Verdict, fine, malformed, notThere, noRule, full, verdictNo, firstOf, only}
+use Rattle.lent_lists.specs.Records.{segmentIn, countedIn, goodLists, runs}
+use Rattle.lent_lists.specs.Walks.{walked, usedVerdict, recordVerdict}
 use Rattle.fixing.specs.ProverCode.{lastCounter, ruledReference, decided, temporaries, proverVerdict}
 use Rattle.fixing.specs.Answers.{ProverCodeIs}
 use Rattle.fixing.specs.Conditions.{First, NoRule, NotThere, Ruled, referencesOf, HasStep, RecordRuled, RecordNoRule, RecordNotThere, WellFormed, Refused10, Refused3}
 use Rattle.fixing.specs.declared.fix_prover_code.Fixed.{Fixed}
-use Rattle.fixing.specs.Laws.Verdicts.{first-append, first-fine}
+use Rattle.lent_lists.specs.Laws.Verdicts.{first-append, first-fine}
 
 -- ---- a walk: the first refusal of a list
 

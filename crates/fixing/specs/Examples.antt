@@ -11,9 +11,9 @@ use Rattle.kinds.specs.References.{blankRef, plainRef}
 use Rattle.kinds.specs.declared.reference.Reference.{Reference}
 use Rattle.kinds.specs.declared.step.Step.{Step}
 use Rattle.fixed_meaning.specs.Fixing.{begin}
-use Rattle.fixing.specs.Verdicts.{noRule, notThere}
-use Rattle.fixing.specs.Records.{runs, recordBy, usedBy, mapped}
-use Rattle.fixing.specs.Walks.{walked, usedVerdict, recordVerdict}
+use Rattle.lent_lists.specs.Verdicts.{noRule, notThere}
+use Rattle.lent_lists.specs.Records.{runs, recordBy, usedBy, mapped}
+use Rattle.lent_lists.specs.Walks.{walked, usedVerdict, recordVerdict}
 use Rattle.fixing.specs.ProverCode.{ruleKind, ruleId, ruleDim, ruleFor, planOf, ruledReference, meetReference, meetUsed, meetRecord, meetRecords, fixReference, fixRecord}
 
 abbrev no-origin : ℕ

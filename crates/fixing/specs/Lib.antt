@@ -1,7 +1,4 @@
 -- The definitions that the contracts cite, and the laws on them.
-pub mod Verdicts
-pub mod Records
-pub mod Walks
 pub mod ProverCode
 pub mod Machine
 pub mod Answers

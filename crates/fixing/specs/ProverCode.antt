@@ -11,9 +11,9 @@ use Rattle.kinds.specs.Range.{within}
 use Rattle.kinds.specs.declared.reference.Reference.{Reference}
 use Rattle.kinds.specs.declared.step.Step.{Step}
 use Rattle.fixed_meaning.specs.Fixing.{Plan, Map, Fixing, begin, grow}
-use Rattle.fixing.specs.Verdicts.{Verdict, malformed, notThere, noRule, full, firstOf, only, ifFine}
-use Rattle.fixing.specs.Records.{segmentIn, goodLists, recordBy, rewritten}
-use Rattle.fixing.specs.Walks.{walked, recordVerdict}
+use Rattle.lent_lists.specs.Verdicts.{Verdict, malformed, notThere, noRule, full, firstOf, only, ifFine}
+use Rattle.lent_lists.specs.Records.{segmentIn, goodLists, recordBy, rewritten}
+use Rattle.lent_lists.specs.Walks.{walked, recordVerdict}
 
 -- the largest counter, a number of 16 bits
 abbrev pub lastCounter : ℕ

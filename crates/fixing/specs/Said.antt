@@ -23,12 +23,12 @@ use Rattle.meaning.specs.Steps.{Kind, Cell, Ref, StepOp, Step, step}
 use Rattle.meaning.specs.Building.{Segment}
 use Rattle.meaning.specs.Laws.Tests.{true-false, and-left, and-right}
 use Rattle.fixed_meaning.specs.Fixing.{fixSegment}
-use Rattle.fixing.specs.Verdicts.{Verdict, fine, malformed, notThere, noRule, full, verdictNo, firstOf, only}
-use Rattle.fixing.specs.Records.{recordsIn, countedIn, runs, goodReference, goodUsed, goodRecord, goodRecords, goodList, goodLists}
-use Rattle.fixing.specs.Walks.{walked, recordVerdict}
+use Rattle.lent_lists.specs.Verdicts.{Verdict, fine, malformed, notThere, noRule, full, verdictNo, firstOf, only}
+use Rattle.lent_lists.specs.Records.{recordsIn, countedIn, runs, goodReference, goodUsed, goodRecord, goodRecords, goodList, goodLists}
+use Rattle.lent_lists.specs.Walks.{walked, recordVerdict}
 use Rattle.fixing.specs.ProverCode.{ruledReference, planOf, lastCounter, decided, temporaries, proverVerdict, listAfter}
 use Rattle.fixing.specs.Decoding.{kindFrom, opFrom, refFrom, refsFrom, stepFrom, stepsFrom}
-use Rattle.fixing.specs.Laws.Rules.{ruled-append}
+use Rattle.lent_lists.specs.Laws.Walks.{ruled-append}
 use Rattle.fixing.specs.Laws.Joined.{reference-range, counted-good, fixed-records-say, list-fixed}
 
 first-is-fine : (v w : Verdict) → firstOf v w ≡ fine → v ≡ fine

@@ -13,7 +13,7 @@ use kinds::step::nth_step;
 use kinds::step::put_nth_step;
 ghost use mathlib.Core.Path.{_≡_};
 ghost use lib.ListN.{getD};
-ghost use Rattle.fixing.specs.Records.{usedBy, recordBy, rewritten};
+ghost use Rattle.lent_lists.specs.Records.{usedBy, recordBy, rewritten};
 ghost use Rattle.fixing.specs.Machine.{temporaryIn, expressionIn, referenceIn};
 
 fn word_at(words: &[u16], id: u16) -> u16

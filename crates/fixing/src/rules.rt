@@ -1,6 +1,4 @@
 // Has each reference of a list a rule, and is each cm there? A refusal is its number, 0 where there is none.
-use crate::records::good_lists;
-use crate::records::has_step;
 use crate::temporaries::LAST_COUNTER;
 use kinds::kind::Kind;
 use kinds::reference::Reference;
@@ -10,10 +8,12 @@ use kinds::refusal::NOT_THERE;
 use kinds::step::STEP_SIZE;
 use kinds::step::Step;
 use kinds::step::nth_step;
+use lent_lists::records::good_lists;
+use lent_lists::records::has_step;
 ghost use mathlib.Core.Path.{_≡_};
-ghost use Rattle.fixing.specs.Verdicts.{verdictNo};
-ghost use Rattle.fixing.specs.Records.{recordsIn, segmentIn};
-ghost use Rattle.fixing.specs.Walks.{walked, usedVerdict, recordVerdict};
+ghost use Rattle.lent_lists.specs.Verdicts.{verdictNo};
+ghost use Rattle.lent_lists.specs.Records.{recordsIn, segmentIn};
+ghost use Rattle.lent_lists.specs.Walks.{walked, usedVerdict, recordVerdict};
 ghost use Rattle.fixing.specs.ProverCode.{ruledReference, decided};
 
 // Document 01's refusal 10.

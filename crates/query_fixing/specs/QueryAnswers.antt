@@ -5,7 +5,7 @@ use mathlib.Core.Path.{_≡_}
 use mathlib.Core.Option.{none}
 use mathlib.Core.List.{List}
 use Rattle.meaning.specs.Refusals.{Refusal, Answer, done, refused}
-use Rattle.fixing.specs.Verdicts.{Verdict, fine, malformed, notThere, noRule, full}
+use Rattle.lent_lists.specs.Verdicts.{Verdict, fine, malformed, notThere, noRule, full}
 use Rattle.query_fixing.specs.QueryCode.{queryVerdict, queriedAfter}
 use Rattle.query_fixing.specs.declared.fix_query_code.Queried.{Queried}
 use Rattle.query_fixing.specs.declared.fix_query_code.Queried.the-variants as queried

@@ -9,9 +9,9 @@ use lib.Dec.{eqb}
 use Rattle.kinds.specs.KindBytes as kind
 use Rattle.kinds.specs.Range.{within}
 use Rattle.kinds.specs.declared.reference.Reference.{Reference}
-use Rattle.fixing.specs.Verdicts.{Verdict, fine, malformed, notThere, firstOf, only, ifFine}
-use Rattle.fixing.specs.Records.{segmentIn, goodLists, recordBy, rewritten}
-use Rattle.fixing.specs.Walks.{walked, recordVerdict}
+use Rattle.lent_lists.specs.Verdicts.{Verdict, fine, malformed, notThere, firstOf, only, ifFine}
+use Rattle.lent_lists.specs.Records.{segmentIn, goodLists, recordBy, rewritten}
+use Rattle.lent_lists.specs.Walks.{walked, recordVerdict}
 
 -- a tree is kind, position and dimension in one number, 0 where there is none
 unfoldable pub treeFor : List ℕ → ℕ → ℕ

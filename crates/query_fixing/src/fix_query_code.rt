@@ -1,9 +1,9 @@
 // Fixing the verifier's query code, after it was fixed for the prover in "2ns".
 use crate::trees::tree_list;
 use crate::trees::treed_lists;
-use fixing::records::good_lists;
 use kinds::refusal::NONE;
 use kinds::refusal::NOT_THERE;
+use lent_lists::records::good_lists;
 ghost use mathlib.Core.Path.{_≡_};
 ghost use Rattle.query_fixing.specs.QueryAnswers.{QueryCodeIs};
 

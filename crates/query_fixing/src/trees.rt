@@ -1,5 +1,4 @@
 // A cm's tree, by its record in "2ns": kind, position and dimension in one number.
-use fixing::records::has_step;
 use kinds::kind::Kind;
 use kinds::reference::Reference;
 use kinds::refusal::NONE;
@@ -8,10 +7,11 @@ use kinds::step::STEP_SIZE;
 use kinds::step::Step;
 use kinds::step::nth_step;
 use kinds::step::put_nth_step;
+use lent_lists::records::has_step;
 ghost use mathlib.Core.Path.{_≡_};
-ghost use Rattle.fixing.specs.Verdicts.{verdictNo};
-ghost use Rattle.fixing.specs.Records.{recordsIn, segmentIn, usedBy, recordBy, rewritten};
-ghost use Rattle.fixing.specs.Walks.{walked, usedVerdict, recordVerdict};
+ghost use Rattle.lent_lists.specs.Verdicts.{verdictNo};
+ghost use Rattle.lent_lists.specs.Records.{recordsIn, segmentIn, usedBy, recordBy, rewritten};
+ghost use Rattle.lent_lists.specs.Walks.{walked, usedVerdict, recordVerdict};
 ghost use Rattle.query_fixing.specs.QueryCode.{treeFor, hasTree, treedReference, treeReference};
 
 const NO_RULE: u8 = 10;

@@ -2,16 +2,14 @@
 -- Assumes nothing.
 use Prim.Native.Nat.{ℕ, _-_}
 use mathlib.Core.Path.{_≡_, sym, _∙_, ap}
-use mathlib.Core.Bool.{Bool, true, false}
+use mathlib.Core.Bool.{false}
 use mathlib.Core.List.{List}
 use native.Mathlib.Omega.{arith}
 use lib.ListN.{getD}
-use lib.Dec.{eqb, ltb}
+use lib.Dec.{eqb}
 use borrow.Author.Tests.{eq-eqb, ne-eqb}
 use Rattle.kinds.specs.KindBytes as kind
 use Rattle.kinds.specs.declared.reference.Reference.{Reference}
-use Rattle.kinds.specs.declared.step.Step.{Step}
-use Rattle.fixing.specs.Records.{recordBy, usedBy}
 use Rattle.fixing.specs.ProverCode.{ruleKind, ruleId, ruleDim, ruleFor}
 use Rattle.fixing.specs.Machine.{temporaryIn, expressionIn, referenceIn}
 
@@ -61,20 +59,3 @@ module _ (rules cms plain primed : List ℕ) where
   pub reference-other : (r : Reference) → (r .kind ≡ kind.cm → ⊥) → (r .kind ≡ kind.exp → ⊥) → r ≡ referenceIn rules cms plain primed r
   unfolding referenceIn
   reference-other r h k = rw (ne-eqb (r .kind) kind.cm h, ne-eqb (r .kind) kind.exp k)
-
--- ---- a record, whatever its references become
-
-module _ (f : Reference → Reference) where
-  pub used-fixed : (u : Bool) (r x : Reference) → u ≡ true → x ≡ f r → x ≡ usedBy f u r
-  unfolding usedBy
-  used-fixed u r x h e = rw h e
-
-  pub unused-fixed : (u : Bool) (r : Reference) → u ≡ false → r ≡ usedBy f u r
-  unfolding usedBy
-  unused-fixed u r h = rw h
-
-  pub record-fixed :
-      (x : Step) (d a b c : Reference) → d ≡ f (x .dest) → a ≡ usedBy f (ltb 0 (x .count)) (x .s0) → b ≡ usedBy f (ltb 1 (x .count)) (x .s1) →
-      c ≡ usedBy f (ltb 2 (x .count)) (x .s2) → record { op = x .op; count = x .count; origin = x .origin; dest = d; s0 = a; s1 = b; s2 = c } ≡ recordBy f x
-  unfolding recordBy
-  record-fixed x d a b c ed ea eb ec = rw (ed, ea, eb, ec)

@@ -25,11 +25,11 @@ use Rattle.meaning.specs.Laws.Tests.{true-false, and-left, and-right, bind-some
 use Rattle.fixed_meaning.specs.Fixing.{Plan, Map, Fixing, begin, become, renameRef, fixCell, meetCell, meet, fixRefs, fixStep, fixList, fixEnd, fixSegment}
 use Rattle.fixed_meaning.specs.Renaming.{renameRefs, renameStep, rename}
 use Rattle.fixed_meaning.specs.FixingLaws.{segment-renamed}
-use Rattle.fixing.specs.Verdicts.{fine}
-use Rattle.fixing.specs.Records.{recordCount, recordsIn, countedIn, goodReference, goodUsed, goodRecord, goodRecords, goodList, goodLists, recordBy, usedBy, mapped, rewritten}
+use Rattle.lent_lists.specs.Verdicts.{fine}
+use Rattle.lent_lists.specs.Records.{recordCount, recordsIn, countedIn, goodReference, goodUsed, goodRecord, goodRecords, goodList, goodLists, recordBy, usedBy, mapped, rewritten}
 use Rattle.fixing.specs.ProverCode.{ruleFor, ruleDim, planOf, meetReference, meetUsed, meetRecord, meetRecords, fixExpression, placed, fixReference, fixRecord, temporaries, proverVerdict, listAfter}
 use Rattle.fixing.specs.Decoding.{kindFrom, opFrom, refFrom, refsFrom, stepFrom, stepsFrom}
-use Rattle.fixing.specs.Laws.Rewriting.{mapped-length}
+use Rattle.lent_lists.specs.Laws.Rewriting.{mapped-length}
 
 -- ---- kinds
 

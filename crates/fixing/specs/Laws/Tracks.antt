@@ -15,7 +15,7 @@ use Rattle.kinds.specs.declared.reference.Reference.{Reference}
 use Rattle.kinds.specs.declared.step.Step.{Step}
 use Rattle.meaning.specs.Trees.{Each}
 use Rattle.fixed_meaning.specs.Fixing.{Plan, Map, Fixing, grow}
-use Rattle.fixing.specs.Records.{recordBy, usedBy, mapped}
+use Rattle.lent_lists.specs.Records.{recordBy, usedBy, mapped}
 use Rattle.fixing.specs.ProverCode.{lastCounter, ruleKind, ruleId, ruleDim, ruleFor, planOf, meetReference, meetUsed, meetRecord, meetRecords, fixExpression, fixReference, fixRecord}
 use Rattle.fixing.specs.Machine.{takesTemporary, over, tableAfter, counterAfter, Tables, tables, giveReference, giveUsed, giveRecord, giveRecords, temporaryIn, tmpFrom, expressionIn, referenceIn}
 

@@ -16,20 +16,20 @@ use Rattle.kinds.specs.BigEndian.{u16At}
 use Rattle.kinds.specs.References.{refAt}
 use Rattle.kinds.specs.Steps.{stepSize, stepAt, stepsOf, steps-none, steps-more}
 use Rattle.kinds.specs.declared.reference.Reference.{Reference}
-use Rattle.kinds.specs.declared.step.Step.{Step}
 use Rattle.meaning.specs.Trees.{Each}
 use Rattle.meaning.specs.Laws.Tests.{true-false, and-left, and-right, each-join}
 use Rattle.fixed_meaning.specs.Fixing.{Fixing, begin}
-use Rattle.fixing.specs.Verdicts.{Verdict, fine, malformed, notThere, noRule, full, verdictNo, firstOf, only}
-use Rattle.fixing.specs.Records.{recordCount, recordsIn, segmentIn, goodReference, goodUsed, goodRecord, goodRecords, goodList, goodLists, runs, recordBy, rewritten}
-use Rattle.fixing.specs.Walks.{walked, usedVerdict, recordVerdict}
+use Rattle.lent_lists.specs.Verdicts.{Verdict, fine, malformed, notThere, noRule, full, verdictNo, firstOf, only}
+use Rattle.lent_lists.specs.Records.{recordCount, recordsIn, segmentIn, goodReference, goodUsed, goodRecord, goodRecords, goodList, goodLists, recordBy, rewritten}
+use Rattle.lent_lists.specs.Walks.{walked, recordVerdict}
 use Rattle.fixing.specs.ProverCode.{lastCounter, ruledReference, decided, temporaries, proverVerdict, listAfter}
-use Rattle.fixing.specs.Machine.{over, Tables, tables, giveRecords, referenceIn}
+use Rattle.fixing.specs.Machine.{Tables, tables, giveRecords, referenceIn}
 use Rattle.fixing.specs.Answers.{ProverCodeIs, fixedOf}
 use Rattle.fixing.specs.declared.fix_prover_code.Fixed.{Fixed}
 use Rattle.fixing.specs.declared.fix_prover_code.Fixed.the-variants as fixed
-use Rattle.fixing.specs.Laws.Verdicts.{no-refusal}
-use Rattle.fixing.specs.Laws.Records.{good-more}
+use Rattle.lent_lists.specs.Laws.Verdicts.{no-refusal}
+use Rattle.lent_lists.specs.Laws.Records.{good-more}
+use Rattle.lent_lists.specs.Laws.Walks.{Met, only-met, walk-met, is-malformed, is-not-there, is-no-rule}
 use Rattle.fixing.specs.Laws.Tracks.{idLimit, Shows, Tracks, exact, past, Sound, SoundIf, SoundRecord, track-records, records-same}
 
 -- ---- records of a well-formed list are sound
@@ -104,50 +104,6 @@ start-shows n counter h = record {
   primedSize = zeros-length n ∙ h;
 }
 
--- ---- which verdicts a walk has
-
--- a walk over records meets 3 and 10 alone
-abbrev pub Met : Verdict → Type 0
-Met fine = Unit {0}
-Met malformed = ⊥
-Met notThere = Unit {0}
-Met noRule = Unit {0}
-Met full = ⊥
-
-first-met : (v w : Verdict) → Met v → Met w → Met (firstOf v w)
-first-met fine w h k = k
-first-met malformed w h k = h
-first-met notThere w h k = h
-first-met noRule w h k = h
-first-met full w h k = h
-
-pub only-met : (b : Bool) (v : Verdict) → Met v → Met (only b v)
-only-met true v h = tt
-only-met false v h = h
-
-module _ (g : Reference → Verdict) (met : (r : Reference) → Met (g r)) where
-  used-met : (u : Bool) (r : Reference) → Met (usedVerdict g u r)
-  unfolding usedVerdict
-  used-met true r = met r
-  used-met false r = tt
-
-  record-met : (x : Step) → Met (recordVerdict g x)
-  unfolding recordVerdict
-  record-met x =
-      let a = usedVerdict g (ltb 0 (x .count)) (x .s0) in
-      let b = usedVerdict g (ltb 1 (x .count)) (x .s1) in
-      let c = usedVerdict g (ltb 2 (x .count)) (x .s2) in
-      let d = g (x .dest) in
-      let h₂ = first-met c d (used-met (ltb 2 (x .count)) (x .s2)) (met (x .dest)) in
-      let h₁ = first-met b (firstOf c d) (used-met (ltb 1 (x .count)) (x .s1)) h₂ in
-      let h₀ = first-met a (firstOf b (firstOf c d)) (used-met (ltb 0 (x .count)) (x .s0)) h₁ in
-      first-met (only (runs x) noRule) (firstOf a (firstOf b (firstOf c d))) (only-met (runs x) noRule tt) h₀
-
-  pub walk-met : (xs : List Step) → Met (walked (recordVerdict g) xs)
-  unfolding walked
-  walk-met [] = tt
-  walk-met (x ∷ xs) = first-met (recordVerdict g x) (walked (recordVerdict g) xs) (record-met x) (walk-met xs)
-
 module _ (cms : List ℕ) where
   reference-met : (r : Reference) → Met (ruledReference cms r)
   unfolding ruledReference
@@ -168,27 +124,6 @@ module _ (cms : List ℕ) where
           ⊎ Met (firstOf (only b malformed) (walked (recordVerdict (ruledReference cms)) (segmentIn first i last)))
       go true = inr (walk-met (ruledReference cms) reference-met (segmentIn first i last))
       go false = inl refl
-
-pub is-malformed : (v : Verdict) → verdictNo v ≡ 1 → v ≡ malformed
-is-malformed fine h = absurd (omega arith)
-is-malformed malformed h = refl
-is-malformed notThere h = absurd (omega arith)
-is-malformed noRule h = absurd (omega arith)
-is-malformed full h = absurd (omega arith)
-
-pub is-not-there : (v : Verdict) → verdictNo v ≡ 3 → v ≡ notThere
-is-not-there fine h = absurd (omega arith)
-is-not-there malformed h = absurd (omega arith)
-is-not-there notThere h = refl
-is-not-there noRule h = absurd (omega arith)
-is-not-there full h = absurd (omega arith)
-
-pub is-no-rule : (v : Verdict) → Met v → (verdictNo v ≡ 3 → ⊥) → (verdictNo v ≡ 0 → ⊥) → v ≡ noRule
-is-no-rule fine n b c = absurd (c refl)
-is-no-rule malformed n b c = absurd n
-is-no-rule notThere n b c = absurd (b refl)
-is-no-rule noRule n b c = refl
-is-no-rule full n b c = absurd n
 
 -- ---- the ways through the code
 

@@ -10,11 +10,11 @@ use borrow.Author.Tests.{eq-eqb, ne-eqb, le-leb}
 use Rattle.kinds.specs.KindBytes as kind
 use Rattle.kinds.specs.Range.{within, within-below}
 use Rattle.kinds.specs.declared.reference.Reference.{Reference}
-use Rattle.fixing.specs.Verdicts.{Verdict, fine, malformed, notThere, noRule, full, verdictNo, only}
-use Rattle.fixing.specs.Records.{segmentIn, goodLists, recordBy, rewritten}
-use Rattle.fixing.specs.Walks.{walked, recordVerdict}
-use Rattle.fixing.specs.Laws.Whole.{Met, walk-met, is-not-there, is-no-rule}
-use Rattle.fixing.specs.Laws.Verdicts.{no-refusal}
+use Rattle.lent_lists.specs.Verdicts.{Verdict, fine, malformed, notThere, noRule, full, verdictNo, only}
+use Rattle.lent_lists.specs.Records.{segmentIn, goodLists, recordBy, rewritten}
+use Rattle.lent_lists.specs.Walks.{walked, recordVerdict}
+use Rattle.lent_lists.specs.Laws.Walks.{Met, walk-met, is-not-there, is-no-rule}
+use Rattle.lent_lists.specs.Laws.Verdicts.{no-refusal}
 use Rattle.query_fixing.specs.QueryCode.{treeFor, treeKind, treePosition, treeDim, hasTree, treedReference, treeReference, queryVerdict, queriedAfter}
 use Rattle.query_fixing.specs.QueryAnswers.{Says, QueryCodeIs}
 use Rattle.query_fixing.specs.declared.fix_query_code.Queried.{Queried}

@@ -1,6 +1,6 @@
 -- `fixing::rewrite::fixed_record` meets its contract.
 -- Assumes nothing.
-use Rattle.fixing.specs.Laws.Expressions.{record-fixed}
+use Rattle.lent_lists.specs.Laws.Rewriting.{record-fixed}
 use borrow.Author.Needs.{needs}
 use Rattle.fixing.proofs.rewrite.fixed_record.Statement.{statement}
 use Rattle.fixing.proofs.rewrite.fixed_record.Tie as tie

@@ -1,6 +1,6 @@
 -- `fixing::rewrite::fixed_used` meets its contract.
 -- Assumes nothing.
-use Rattle.fixing.specs.Laws.Expressions.{used-fixed, unused-fixed}
+use Rattle.lent_lists.specs.Laws.Rewriting.{used-fixed, unused-fixed}
 use borrow.Author.Needs.{needs}
 use Rattle.fixing.proofs.rewrite.fixed_used.Statement.{statement}
 use Rattle.fixing.proofs.rewrite.fixed_used.Tie as tie

@@ -1,6 +1,6 @@
 -- `fixing::rewrite::word_at` meets its contract.
 -- Assumes nothing.
-use Rattle.fixing.specs.Laws.Rewriting.{past-the-end}
+use Rattle.lent_lists.specs.Laws.Rewriting.{past-the-end}
 use borrow.Author.Needs.{needs}
 use Rattle.fixing.proofs.rewrite.word_at.Statement.{statement}
 use Rattle.fixing.proofs.rewrite.word_at.Tie as tie

@@ -4,12 +4,12 @@ use Prim.Native.Nat.{_≤_, _-_}
 use mathlib.Core.Path.{_≡_}
 use native.Mathlib.Omega.{arith}
 use Rattle.kinds.specs.Steps.{stepsOf}
-use Rattle.fixing.specs.Verdicts.{verdictNo}
-use Rattle.fixing.specs.Records.{recordCount}
-use Rattle.fixing.specs.Walks.{walked, recordVerdict}
+use Rattle.lent_lists.specs.Verdicts.{verdictNo}
+use Rattle.lent_lists.specs.Records.{recordCount}
+use Rattle.lent_lists.specs.Walks.{walked, recordVerdict}
 use Rattle.fixing.specs.ProverCode.{ruledReference}
-use Rattle.fixing.specs.Laws.Records.{record-in}
-use Rattle.fixing.specs.Laws.Rules.{ruled-begin, ruled-next, ruled-stop, ruled-end}
+use Rattle.lent_lists.specs.Laws.Records.{record-in}
+use Rattle.lent_lists.specs.Laws.Walks.{ruled-begin, ruled-next, ruled-stop, ruled-end}
 use Rattle.fixing.proofs.rules.ruled_list.Statement.{statement}
 use Rattle.fixing.proofs.rules.ruled_list.Tie as tie
 

@@ -1,6 +1,6 @@
 -- `fixing::rules::ruled_lists` meets its contract.
 -- Assumes nothing.
-use Rattle.fixing.specs.Laws.Rules.{in-first, in-i, in-last}
+use Rattle.lent_lists.specs.Laws.Walks.{in-first, in-i, in-last}
 use borrow.Author.Needs.{needs}
 use Rattle.fixing.proofs.rules.ruled_lists.Statement.{statement}
 use Rattle.fixing.proofs.rules.ruled_lists.Tie as tie

@@ -1,7 +1,7 @@
 -- `fixing::rules::ruled_record` meets its contract: each way through the code is one law of specs/Laws/Rules.antt.
 -- Assumes nothing.
 use borrow.Author.Tests.{not-true, not-false}
-use Rattle.fixing.specs.Laws.Rules.{step-ruleless, first-refused, second-refused, third-refused, dest-decides}
+use Rattle.lent_lists.specs.Laws.Walks.{step-ruleless, first-refused, second-refused, third-refused, dest-decides}
 use borrow.Author.Needs.{needs}
 use Rattle.fixing.proofs.rules.ruled_record.Statement.{statement}
 use Rattle.fixing.proofs.rules.ruled_record.Tie as tie

@@ -1,6 +1,6 @@
 -- `fixing::rules::ruled_used` meets its contract.
 -- Assumes nothing.
-use Rattle.fixing.specs.Laws.Rules.{used-ruled, unused-ruled}
+use Rattle.lent_lists.specs.Laws.Walks.{used-ruled, unused-ruled}
 use borrow.Author.Needs.{needs}
 use Rattle.fixing.proofs.rules.ruled_used.Statement.{statement}
 use Rattle.fixing.proofs.rules.ruled_used.Tie as tie

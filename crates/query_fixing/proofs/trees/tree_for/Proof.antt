@@ -1,7 +1,7 @@
 -- `query_fixing::trees::tree_for` meets its contract.
 -- Assumes nothing.
 use mathlib.Core.Path.{refl}
-use Rattle.fixing.specs.Laws.Rewriting.{past-the-end}
+use Rattle.lent_lists.specs.Laws.Rewriting.{past-the-end}
 use Rattle.query_fixing.specs.QueryCode.{treeFor}
 use borrow.Author.Needs.{needs}
 use Rattle.query_fixing.proofs.trees.tree_for.Statement.{statement}

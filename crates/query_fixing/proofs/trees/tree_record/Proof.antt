@@ -1,6 +1,6 @@
 -- `query_fixing::trees::tree_record` meets its contract.
 -- Assumes nothing.
-use Rattle.fixing.specs.Laws.Expressions.{record-fixed}
+use Rattle.lent_lists.specs.Laws.Rewriting.{record-fixed}
 use borrow.Author.Needs.{needs}
 use Rattle.query_fixing.proofs.trees.tree_record.Statement.{statement}
 use Rattle.query_fixing.proofs.trees.tree_record.Tie as tie

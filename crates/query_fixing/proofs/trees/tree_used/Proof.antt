@@ -1,6 +1,6 @@
 -- `query_fixing::trees::tree_used` meets its contract.
 -- Assumes nothing.
-use Rattle.fixing.specs.Laws.Expressions.{used-fixed, unused-fixed}
+use Rattle.lent_lists.specs.Laws.Rewriting.{used-fixed, unused-fixed}
 use borrow.Author.Needs.{needs}
 use Rattle.query_fixing.proofs.trees.tree_used.Statement.{statement}
 use Rattle.query_fixing.proofs.trees.tree_used.Tie as tie

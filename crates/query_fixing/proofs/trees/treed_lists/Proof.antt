@@ -1,6 +1,6 @@
 -- `query_fixing::trees::treed_lists` meets its contract.
 -- Assumes nothing.
-use Rattle.fixing.specs.Laws.Rules.{in-first, in-i, in-last}
+use Rattle.lent_lists.specs.Laws.Walks.{in-first, in-i, in-last}
 use borrow.Author.Needs.{needs}
 use Rattle.query_fixing.proofs.trees.treed_lists.Statement.{statement}
 use Rattle.query_fixing.proofs.trees.treed_lists.Tie as tie

@@ -1,6 +1,6 @@
 -- `query_fixing::trees::treed_used` meets its contract.
 -- Assumes nothing.
-use Rattle.fixing.specs.Laws.Rules.{used-ruled, unused-ruled}
+use Rattle.lent_lists.specs.Laws.Walks.{used-ruled, unused-ruled}
 use borrow.Author.Needs.{needs}
 use Rattle.query_fixing.proofs.trees.treed_used.Statement.{statement}
 use Rattle.query_fixing.proofs.trees.treed_used.Tie as tie

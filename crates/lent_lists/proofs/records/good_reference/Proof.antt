@@ -1,9 +1,9 @@
--- `fixing::records::good_reference` meets its contract.
+-- `lent_lists::records::good_reference` meets its contract.
 -- Assumes nothing.
-use Rattle.fixing.specs.Laws.Records.{ref-good, ref-bad}
+use Rattle.lent_lists.specs.Laws.Records.{ref-good, ref-bad}
 use borrow.Author.Needs.{needs}
-use Rattle.fixing.proofs.records.good_reference.Statement.{statement}
-use Rattle.fixing.proofs.records.good_reference.Tie as tie
+use Rattle.lent_lists.proofs.records.good_reference.Statement.{statement}
+use Rattle.lent_lists.proofs.records.good_reference.Tie as tie
 
 is-reference-requires : tie.Need-is-reference-requires
 is-reference-requires c κs = search needs

@@ -2,7 +2,7 @@
 -- Assumes nothing.
 use mathlib.Core.Path.{_≡_, refl}
 use native.Mathlib.Omega.{arith}
-use Rattle.fixing.specs.Verdicts.{Verdict, fine, malformed, notThere, noRule, full, verdictNo, firstOf}
+use Rattle.lent_lists.specs.Verdicts.{Verdict, fine, malformed, notThere, noRule, full, verdictNo, firstOf}
 
 pub goes-on : (v w : Verdict) → verdictNo v ≡ 0 → firstOf v w ≡ w
 goes-on fine w h = refl

@@ -1,10 +1,10 @@
--- `fixing::records::good_lists` meets its contract.
+-- `lent_lists::records::good_lists` meets its contract.
 -- Assumes nothing.
 use borrow.Author.Tests.{not-true, not-false}
-use Rattle.fixing.specs.Laws.Records.{lists-first, lists-second, lists-third}
+use Rattle.lent_lists.specs.Laws.Records.{lists-first, lists-second, lists-third}
 use borrow.Author.Needs.{needs}
-use Rattle.fixing.proofs.records.good_lists.Statement.{statement}
-use Rattle.fixing.proofs.records.good_lists.Tie as tie
+use Rattle.lent_lists.proofs.records.good_lists.Statement.{statement}
+use Rattle.lent_lists.proofs.records.good_lists.Tie as tie
 
 good-list-requires : tie.Need-good-list-requires
 good-list-requires c κs = search needs

@@ -1,9 +1,9 @@
--- `fixing::records::good_used` meets its contract.
+-- `lent_lists::records::good_used` meets its contract.
 -- Assumes nothing.
-use Rattle.fixing.specs.Laws.Records.{used-good, unused-good}
+use Rattle.lent_lists.specs.Laws.Records.{used-good, unused-good}
 use borrow.Author.Needs.{needs}
-use Rattle.fixing.proofs.records.good_used.Statement.{statement}
-use Rattle.fixing.proofs.records.good_used.Tie as tie
+use Rattle.lent_lists.proofs.records.good_used.Statement.{statement}
+use Rattle.lent_lists.proofs.records.good_used.Tie as tie
 
 good-reference-requires : tie.Need-good-reference-requires
 good-reference-requires c κs = search needs

@@ -1,9 +1,9 @@
--- `fixing::records::has_step` meets its contract.
+-- `lent_lists::records::has_step` meets its contract.
 -- Assumes nothing.
-use Rattle.fixing.specs.Laws.Records.{has-it, has-not}
+use Rattle.lent_lists.specs.Laws.Records.{has-it, has-not}
 use borrow.Author.Needs.{needs}
-use Rattle.fixing.proofs.records.has_step.Statement.{statement}
-use Rattle.fixing.proofs.records.has_step.Tie as tie
+use Rattle.lent_lists.proofs.records.has_step.Statement.{statement}
+use Rattle.lent_lists.proofs.records.has_step.Tie as tie
 
 is-step-requires : tie.Need-is-step-requires
 is-step-requires c κs = search needs

@@ -1,10 +1,10 @@
--- `fixing::records::good_record` meets its contract: each way through the code is one law of specs/Laws/Records.antt.
+-- `lent_lists::records::good_record` meets its contract: each way through the code is one law of specs/Laws/Records.antt.
 -- Assumes nothing.
 use borrow.Author.Tests.{not-true, not-false}
-use Rattle.fixing.specs.Laws.Records.{too-many, dest-bad, first-bad, second-bad, third-is}
+use Rattle.lent_lists.specs.Laws.Records.{too-many, dest-bad, first-bad, second-bad, third-is}
 use borrow.Author.Needs.{needs}
-use Rattle.fixing.proofs.records.good_record.Statement.{statement}
-use Rattle.fixing.proofs.records.good_record.Tie as tie
+use Rattle.lent_lists.proofs.records.good_record.Statement.{statement}
+use Rattle.lent_lists.proofs.records.good_record.Tie as tie
 
 returns : tie.Need-returns
 returns c = too-many _ (c .if1 .taken)

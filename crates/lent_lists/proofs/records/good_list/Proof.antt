@@ -1,4 +1,4 @@
--- `fixing::records::good_list` meets its contract: the records before k are well formed.
+-- `lent_lists::records::good_list` meets its contract: the records before k are well formed.
 -- Assumes nothing.
 use borrow.Author.Tests.{not-true, not-false}
 use Prim.Native.Nat.{_≤_, _-_}
@@ -6,10 +6,10 @@ use mathlib.Core.Path.{_≡_}
 use mathlib.Core.Bool.{true}
 use native.Mathlib.Omega.{arith}
 use Rattle.kinds.specs.Steps.{stepsOf}
-use Rattle.fixing.specs.Records.{recordCount, goodRecords}
-use Rattle.fixing.specs.Laws.Records.{good-begin, good-next, good-stop, good-cut, good-end, record-in}
-use Rattle.fixing.proofs.records.good_list.Statement.{statement}
-use Rattle.fixing.proofs.records.good_list.Tie as tie
+use Rattle.lent_lists.specs.Records.{recordCount, goodRecords}
+use Rattle.lent_lists.specs.Laws.Records.{good-begin, good-next, good-stop, good-cut, good-end, record-in}
+use Rattle.lent_lists.proofs.records.good_list.Statement.{statement}
+use Rattle.lent_lists.proofs.records.good_list.Tie as tie
 
 abbrev Inv-loop : tie.InvT-loop
 Inv-loop list count k₀ k = (k ≤ recordCount list) × (goodRecords (stepsOf list k) ≡ true)

@@ -2,16 +2,19 @@
 -- Assumes nothing.
 use Prim.Native.Nat.{ℕ, zero, suc, _+_, _*_, _-_, _≤_}
 use mathlib.Core.Path.{_≡_, refl, _∙_, ap}
+use mathlib.Core.Bool.{Bool, true, false}
 use mathlib.Core.List.{List, [], _∷_, _++_}
 use mathlib.Core.Logic.{inr}
 use native.Mathlib.Nat.{zero-add}
 use native.Mathlib.Numerals.{add-one}
 use native.Mathlib.Omega.{arith}
 use lib.ListN.{length, getD}
+use lib.Dec.{ltb}
+use Rattle.kinds.specs.declared.reference.Reference.{Reference}
 use Rattle.kinds.specs.Write.{write, write-none, write-length, write-then}
 use Rattle.kinds.specs.Steps.{stepSize, stepAt, stepBytes, stepsOf, stepsBytes, step-kept, steps-none, steps-more, steps-length, steps-bytes-none, steps-bytes-one, steps-bytes-length, steps-bytes-append}
 use Rattle.kinds.specs.declared.step.Step.{Step}
-use Rattle.fixing.specs.Records.{recordCount, mapped, rewritten}
+use Rattle.lent_lists.specs.Records.{usedBy, recordBy, recordCount, mapped, rewritten}
 
 pub past-the-end : (l : List ℕ) (i : ℕ) → length l ≤ i → 0 ≡ getD l i 0
 past-the-end [] i h = refl
@@ -67,3 +70,20 @@ unfolding rewritten
 rewrite-end f l k l₁ e a b =
     let n : recordCount l ≡ k = omega arith in
     rw n e
+
+-- ---- a record, whatever its references become
+
+module _ (f : Reference → Reference) where
+  pub used-fixed : (u : Bool) (r x : Reference) → u ≡ true → x ≡ f r → x ≡ usedBy f u r
+  unfolding usedBy
+  used-fixed u r x h e = rw h e
+
+  pub unused-fixed : (u : Bool) (r : Reference) → u ≡ false → r ≡ usedBy f u r
+  unfolding usedBy
+  unused-fixed u r h = rw h
+
+  pub record-fixed :
+      (x : Step) (d a b c : Reference) → d ≡ f (x .dest) → a ≡ usedBy f (ltb 0 (x .count)) (x .s0) → b ≡ usedBy f (ltb 1 (x .count)) (x .s1) →
+      c ≡ usedBy f (ltb 2 (x .count)) (x .s2) → record { op = x .op; count = x .count; origin = x .origin; dest = d; s0 = a; s1 = b; s2 = c } ≡ recordBy f x
+  unfolding recordBy
+  record-fixed x d a b c ed ea eb ec = rw (ed, ea, eb, ec)

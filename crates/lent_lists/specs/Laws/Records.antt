@@ -16,7 +16,7 @@ use Rattle.kinds.specs.StepOps.{isStep, sourcesNeeded}
 use Rattle.kinds.specs.Steps.{stepSize, stepAt, stepsOf, steps-none, steps-more}
 use Rattle.kinds.specs.declared.reference.Reference.{Reference}
 use Rattle.kinds.specs.declared.step.Step.{Step}
-use Rattle.fixing.specs.Records.{recordCount, goodReference, goodUsed, goodRecord, goodRecords, goodList, goodLists, runs}
+use Rattle.lent_lists.specs.Records.{recordCount, goodReference, goodUsed, goodRecord, goodRecords, goodList, goodLists, runs}
 
 -- ---- a reference
 

@@ -5,8 +5,8 @@ use mathlib.Core.List.{List, [], _∷_}
 use lib.Dec.{ltb}
 use Rattle.kinds.specs.declared.reference.Reference.{Reference}
 use Rattle.kinds.specs.declared.step.Step.{Step}
-use Rattle.fixing.specs.Verdicts.{Verdict, fine, noRule, firstOf, only}
-use Rattle.fixing.specs.Records.{runs}
+use Rattle.lent_lists.specs.Verdicts.{Verdict, fine, noRule, firstOf, only}
+use Rattle.lent_lists.specs.Records.{runs}
 
 -- the first refusal of a list
 unfoldable pub walked : {A : Type 0} → (A → Verdict) → List A → Verdict

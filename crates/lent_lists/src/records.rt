@@ -6,7 +6,7 @@ use kinds::step::Step;
 use kinds::step::nth_step;
 use kinds::step_op::StepOp;
 ghost use mathlib.Core.Path.{_≡_};
-ghost use Rattle.fixing.specs.Records.{goodReference, goodUsed, goodRecord, goodList, goodLists, runs};
+ghost use Rattle.lent_lists.specs.Records.{goodReference, goodUsed, goodRecord, goodList, goodLists, runs};
 
 const SOURCES: u8 = 3;
 
