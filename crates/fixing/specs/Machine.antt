@@ -9,6 +9,7 @@ use lib.Dec.{eqb, leb, ltb}
 use Rattle.kinds.specs.KindBytes as kind
 use Rattle.kinds.specs.declared.reference.Reference.{Reference}
 use Rattle.kinds.specs.declared.step.Step.{Step}
+use Rattle.lent_lists.specs.Records.{rewritten}
 use Rattle.fixing.specs.ProverCode.{lastCounter, ruleKind, ruleId, ruleDim, ruleFor, placed}
 
 -- ---- new temporaries
@@ -87,3 +88,9 @@ module _ (rules : List ℕ) where
   module _ (cms plain primed : List ℕ) where
     unfoldable pub referenceIn : Reference → Reference
     referenceIn r = cond (eqb (r .kind) kind.cm) (placed cms r) (cond (eqb (r .kind) kind.exp) (expressionIn plain primed r) r)
+
+-- three lists with their records rewritten by f
+pub record Rewrites (f : Step → Step) (first i last first′ i′ last′ : List ℕ) : Type 0 where
+  pub firstIs : first′ ≡ rewritten f first
+  pub iIs : i′ ≡ rewritten f i
+  pub lastIs : last′ ≡ rewritten f last

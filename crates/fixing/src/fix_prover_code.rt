@@ -1,5 +1,5 @@
 // Fixing a segment for the prover, in domain "n" or "2ns".
-use crate::rewrite::fix_list;
+use crate::rewrite::fix_lists;
 use crate::rules::decide;
 use crate::temporaries::EXPRESSION_LIMIT;
 use crate::temporaries::ID_LIMIT;
@@ -9,6 +9,8 @@ use kinds::refusal::MALFORMED;
 use kinds::refusal::NONE;
 use kinds::refusal::NOT_THERE;
 ghost use mathlib.Core.Path.{_≡_};
+ghost use Rattle.lent_lists.specs.Verdicts.{fine};
+ghost use Rattle.fixing.specs.ProverCode.{decided};
 ghost use Rattle.fixing.specs.Answers.{ProverCodeIs};
 
 // The segment's counter after it, or the refusal: 1, 3, 10 or 9.
@@ -43,14 +45,27 @@ pub fn fix_prover_code(
     if refused != NONE {
         return Fixed::NoRule;
     }
+    fix_decided(rules, cms, counter, first, i, last)
+}
+
+// Nothing but room can be refused any more.
+fn fix_decided(
+    rules: &[u64; EXPRESSION_LIMIT],
+    cms: &[u16],
+    counter: usize,
+    first: &mut [u8],
+    i: &mut [u8],
+    last: &mut [u8],
+) -> Fixed
+    requires { ⌜ decided (now cms) counter (now first) (now i) (now last) ≡ fine ⌝ }
+    ensures { λ r. ⌜ ProverCodeIs (now (rules .entry)) (now (cms .entry)) counter (now (first .entry)) (now (i .entry)) (now (last .entry)) (now (first .exit)) (now (i .exit)) (now (last .exit)) r ⌝ }
+{
     let mut plain = [0u16; ID_LIMIT];
     let mut primed = [0u16; ID_LIMIT];
     let next = give_lists(rules, &mut plain, &mut primed, counter, first, i, last);
     if LAST_COUNTER < next {
         return Fixed::Full;
     }
-    fix_list(rules, cms, &plain, &primed, first);
-    fix_list(rules, cms, &plain, &primed, i);
-    fix_list(rules, cms, &plain, &primed, last);
+    fix_lists(rules, cms, &plain, &primed, first, i, last);
     Fixed::Done(next)
 }

@@ -14,7 +14,7 @@ use kinds::step::put_nth_step;
 ghost use mathlib.Core.Path.{_≡_};
 ghost use lib.ListN.{getD};
 ghost use Rattle.lent_lists.specs.Records.{usedBy, recordBy, rewritten};
-ghost use Rattle.fixing.specs.Machine.{temporaryIn, expressionIn, referenceIn};
+ghost use Rattle.fixing.specs.Machine.{temporaryIn, expressionIn, referenceIn, Rewrites};
 
 fn word_at(words: &[u16], id: u16) -> u16
     ensures { λ r. ⌜ r ≡ getD (now (words .entry)) id 0 ⌝ }
@@ -140,7 +140,7 @@ fn fixed_record(
     }
 }
 
-pub fn fix_list(
+fn fix_list(
     rules: &[u64; EXPRESSION_LIMIT],
     cms: &[u16],
     plain: &[u16; ID_LIMIT],
@@ -156,4 +156,21 @@ pub fn fix_list(
         put_nth_step(list, k, fixed_record(rules, cms, plain, primed, s));
         k += 1;
     }
+}
+
+// All three lists of a segment.
+pub fn fix_lists(
+    rules: &[u64; EXPRESSION_LIMIT],
+    cms: &[u16],
+    plain: &[u16; ID_LIMIT],
+    primed: &[u16; ID_LIMIT],
+    first: &mut [u8],
+    i: &mut [u8],
+    last: &mut [u8],
+)
+    ensures { λ _. ⌜ Rewrites (recordBy (referenceIn (now (rules .entry)) (now (cms .entry)) (now (plain .entry)) (now (primed .entry)))) (now (first .entry)) (now (i .entry)) (now (last .entry)) (now (first .exit)) (now (i .exit)) (now (last .exit)) ⌝ }
+{
+    fix_list(rules, cms, plain, primed, first);
+    fix_list(rules, cms, plain, primed, i);
+    fix_list(rules, cms, plain, primed, last);
 }

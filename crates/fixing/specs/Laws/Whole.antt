@@ -23,7 +23,7 @@ use Rattle.lent_lists.specs.Verdicts.{Verdict, fine, malformed, notThere, noRul
 use Rattle.lent_lists.specs.Records.{recordCount, recordsIn, segmentIn, goodReference, goodUsed, goodRecord, goodRecords, goodList, goodLists, recordBy, rewritten}
 use Rattle.lent_lists.specs.Walks.{walked, recordVerdict}
 use Rattle.fixing.specs.ProverCode.{lastCounter, ruledReference, decided, temporaries, proverVerdict, listAfter}
-use Rattle.fixing.specs.Machine.{Tables, tables, giveRecords, referenceIn}
+use Rattle.fixing.specs.Machine.{Tables, tables, giveRecords, referenceIn, Rewrites}
 use Rattle.fixing.specs.Answers.{ProverCodeIs, fixedOf}
 use Rattle.fixing.specs.declared.fix_prover_code.Fixed.{Fixed}
 use Rattle.fixing.specs.declared.fix_prover_code.Fixed.the-variants as fixed
@@ -231,11 +231,11 @@ module _ (rules cms : List ℕ) (counter : ℕ) (first i last : List ℕ) (n : �
       list-is l o = rw (verdict, records-same rules (t .plain) (t .primed) (s .map) (fits .2) cms (recordsIn l) o)
 
       pub answer-done :
-          (first′ i′ last′ : List ℕ) → first′ ≡ rewritten (recordBy (referenceIn rules cms (t .plain) (t .primed))) first → i′ ≡ rewritten (recordBy (referenceIn rules cms (t .plain) (t .primed))) i →
-          last′ ≡ rewritten (recordBy (referenceIn rules cms (t .plain) (t .primed))) last → ProverCodeIs rules cms counter first i last first′ i′ last′ (fixed.Done (t .next))
-      answer-done first′ i′ last′ ef ei el = record {
+          (first′ i′ last′ : List ℕ) → Rewrites (recordBy (referenceIn rules cms (t .plain) (t .primed))) first i last first′ i′ last′ →
+          ProverCodeIs rules cms counter first i last first′ i′ last′ (fixed.Done (t .next))
+      answer-done first′ i′ last′ w = record {
         answer = rw (verdict) (ap fixed.Done (fits .1));
-        firstIs = ef ∙ list-is first sound-first;
-        iIs = ei ∙ list-is i sound-i;
-        lastIs = el ∙ list-is last sound-last;
+        firstIs = w .firstIs ∙ list-is first sound-first;
+        iIs = w .iIs ∙ list-is i sound-i;
+        lastIs = w .lastIs ∙ list-is last sound-last;
       }

@@ -1,8 +1,8 @@
--- `fixing::fix_prover_code::fix_prover_code` meets its contract: each way through the code is one law of specs/Laws/Whole.antt.
+-- `fixing::fix_prover_code::fix_prover_code` meets its contract: each refusal is one law of specs/Laws/Whole.antt.
 -- Assumes nothing.
-use native.Mathlib.Omega.{arith}
-use mathlib.Core.Path.{refl}
-use Rattle.fixing.specs.Laws.Whole.{answer-malformed, answer-not-there, answer-no-rule, answer-full, answer-done}
+use mathlib.Core.Path.{sym, _∙_}
+use Rattle.lent_lists.specs.Laws.Verdicts.{no-refusal}
+use Rattle.fixing.specs.Laws.Whole.{answer-malformed, answer-not-there, answer-no-rule}
 use borrow.Author.Needs.{needs}
 use Rattle.fixing.proofs.fix_prover_code.fix_prover_code.Statement.{statement}
 use Rattle.fixing.proofs.fix_prover_code.fix_prover_code.Tie as tie
@@ -46,8 +46,8 @@ same-length-9 c = search needs
 returns-3 : tie.Need-returns-3
 returns-3 c = answer-no-rule _ _ _ _ _ _ _ (c .before .before .before .decide .ensures) (c .before .before .if1 .left) (c .before .if2 .left) (c .if3 .taken)
 
-give-lists-requires : tie.Need-give-lists-requires
-give-lists-requires c κs = search needs
+fix-decided-requires : tie.Need-fix-decided-requires
+fix-decided-requires c κs = no-refusal _ (sym (c .before .before .before .before .before .before .decide .ensures) ∙ c .before .before .before .if3 .left)
 
 same-length-10 : tie.Need-same-length-10
 same-length-10 c = search needs
@@ -59,28 +59,7 @@ same-length-12 : tie.Need-same-length-12
 same-length-12 c = search needs
 
 returns-4 : tie.Need-returns-4
-returns-4 c = answer-full _ _ _ _ _ _ _ (c .before .before .before .before .before .before .before .before .before .before .decide .ensures) (c .before .before .before .before .before .before .before .if3 .left) 65536 refl _ (c .before .give-lists .ensures) (λ k. omega (arith, c .before .before .before .before .before .before .before .before .before .before .before .before .before .before .before .before .slice-known .given k)) (λ k. omega (arith, c .before .before .before .before .before .before .before .before .before .before .before .before .before .before .before .slice-known2 .given k)) (λ k. omega (arith, c .before .before .before .before .before .before .before .before .before .before .before .before .before .before .slice-known3 .given k)) (c .if4 .taken)
-
-fix-list-requires : tie.Need-fix-list-requires
-fix-list-requires c κs = search needs
-
-fix-list-requires-2 : tie.Need-fix-list-requires-2
-fix-list-requires-2 c κs = search needs
-
-fix-list-requires-3 : tie.Need-fix-list-requires-3
-fix-list-requires-3 c κs = search needs
-
-same-length-13 : tie.Need-same-length-13
-same-length-13 c = search needs
-
-same-length-14 : tie.Need-same-length-14
-same-length-14 c = search needs
-
-same-length-15 : tie.Need-same-length-15
-same-length-15 c = search needs
-
-returns-5 : tie.Need-returns-5
-returns-5 c = answer-done _ _ _ _ _ _ _ (c .before .before .before .before .before .before .before .before .before .before .before .before .before .before .before .before .before .before .before .before .before .before .before .before .before .before .before .before .decide .ensures) (c .before .before .before .before .before .before .before .before .before .before .before .before .before .before .before .before .before .before .before .before .before .before .before .before .before .if3 .left) 65536 refl _ (c .before .before .before .before .before .before .before .before .before .before .before .before .before .before .before .before .before .before .before .give-lists .ensures) (λ k. omega (arith, c .before .before .before .before .before .before .before .before .before .before .before .before .before .before .before .before .before .before .before .before .before .before .before .before .before .before .before .before .before .before .before .before .before .before .slice-known .given k)) (λ k. omega (arith, c .before .before .before .before .before .before .before .before .before .before .before .before .before .before .before .before .before .before .before .before .before .before .before .before .before .before .before .before .before .before .before .before .before .slice-known2 .given k)) (λ k. omega (arith, c .before .before .before .before .before .before .before .before .before .before .before .before .before .before .before .before .before .before .before .before .before .before .before .before .before .before .before .before .before .before .before .before .slice-known3 .given k)) (c .before .before .before .before .before .before .before .before .before .before .before .before .before .before .before .before .before .before .if4 .left) _ _ _ (c .before .before .before .before .before .before .before .before .before .before .before .before .before .before .fix-list .ensures) (c .before .before .before .before .before .before .before .before .fix-list2 .ensures) (c .before .before .fix-list3 .ensures)
+returns-4 c = c .before .before .before .before .before .before .fix-decided .ensures
 
 pub fix-prover-code-spec : {M : Type 1} → statement M
 fix-prover-code-spec =
@@ -99,15 +78,8 @@ fix-prover-code-spec =
     same-length-8
     same-length-9
     returns-3
-    give-lists-requires
+    fix-decided-requires
     same-length-10
     same-length-11
     same-length-12
-    returns-4
-    fix-list-requires
-    fix-list-requires-2
-    fix-list-requires-3
-    same-length-13
-    same-length-14
-    same-length-15
-    returns-5)
+    returns-4)
