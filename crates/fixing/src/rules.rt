@@ -8,6 +8,7 @@ use kinds::refusal::NOT_THERE;
 use kinds::step::STEP_SIZE;
 use kinds::step::Step;
 use kinds::step::nth_step;
+use lent_lists::records::NO_RULE;
 use lent_lists::records::good_lists;
 use lent_lists::records::has_step;
 ghost use mathlib.Core.Path.{_≡_};
@@ -15,9 +16,6 @@ ghost use Rattle.lent_lists.specs.Verdicts.{verdictNo};
 ghost use Rattle.lent_lists.specs.Records.{recordsIn, segmentIn};
 ghost use Rattle.lent_lists.specs.Walks.{walked, usedVerdict, recordVerdict};
 ghost use Rattle.fixing.specs.ProverCode.{ruledReference, decided};
-
-// Document 01's refusal 10.
-pub const NO_RULE: u8 = 10;
 
 // tree1 to tree4 and Z have no rule; a cm needs a record in this domain.
 fn ruled_reference(cms: &[u16], r: Reference) -> u8

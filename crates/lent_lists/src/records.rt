@@ -79,6 +79,9 @@ pub fn good_lists(first: &[u8], i: &[u8], last: &[u8]) -> bool
     good_list(last)
 }
 
+// Document 01's refusal of a kind or a step without a rule.
+pub const NO_RULE: u8 = 10;
+
 // Is its step byte known, and has it the sources that the step needs?
 pub fn has_step(s: Step) -> bool
     ensures { λ b. ⌜ b ≡ runs s ⌝ }

@@ -7,14 +7,13 @@ use kinds::step::STEP_SIZE;
 use kinds::step::Step;
 use kinds::step::nth_step;
 use kinds::step::put_nth_step;
+use lent_lists::records::NO_RULE;
 use lent_lists::records::has_step;
 ghost use mathlib.Core.Path.{_≡_};
 ghost use Rattle.lent_lists.specs.Verdicts.{verdictNo};
 ghost use Rattle.lent_lists.specs.Records.{recordsIn, segmentIn, usedBy, recordBy, rewritten};
 ghost use Rattle.lent_lists.specs.Walks.{walked, usedVerdict, recordVerdict};
 ghost use Rattle.query_fixing.specs.QueryCode.{treeFor, hasTree, treedReference, treeReference};
-
-const NO_RULE: u8 = 10;
 
 const KIND_UNIT: u64 = 0x100000000;
 
