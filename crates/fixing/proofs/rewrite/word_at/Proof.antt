@@ -1,0 +1,21 @@
+-- `fixing::rewrite::word_at` meets its contract.
+-- Assumes nothing.
+use Rattle.lent_lists.specs.Laws.Rewriting.{past-the-end}
+use borrow.Author.Needs.{needs}
+use Rattle.fixing.proofs.rewrite.word_at.Statement.{statement}
+use Rattle.fixing.proofs.rewrite.word_at.Tie as tie
+
+mul-result : tie.Need-mul-result
+mul-result c = search needs
+
+shared-slice-read-result : tie.Need-shared-slice-read-result
+shared-slice-read-result c = search needs
+
+returns : tie.Need-returns
+returns c = search needs
+
+returns-2 : tie.Need-returns-2
+returns-2 c = past-the-end (c .before .args .words .now) (c .before .args .id) (c .if1 .left)
+
+pub word-at-spec : {M : Type 1} → statement M
+word-at-spec = tie.close (tie.spec mul-result shared-slice-read-result returns returns-2)

@@ -1,0 +1,4 @@
+pub mod Verdicts
+pub mod Records
+pub mod Walks
+pub mod Rewriting

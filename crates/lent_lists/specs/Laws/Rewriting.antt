@@ -1,0 +1,89 @@
+-- Laws of rewriting: a reference by the tables, and a list record by record in place.
+-- Assumes nothing.
+use Prim.Native.Nat.{ℕ, zero, suc, _+_, _*_, _-_, _≤_}
+use mathlib.Core.Path.{_≡_, refl, _∙_, ap}
+use mathlib.Core.Bool.{Bool, true, false}
+use mathlib.Core.List.{List, [], _∷_, _++_}
+use mathlib.Core.Logic.{inr}
+use native.Mathlib.Nat.{zero-add}
+use native.Mathlib.Numerals.{add-one}
+use native.Mathlib.Omega.{arith}
+use lib.ListN.{length, getD}
+use lib.Dec.{ltb}
+use Rattle.kinds.specs.declared.reference.Reference.{Reference}
+use Rattle.kinds.specs.Write.{write, write-none, write-length, write-then}
+use Rattle.kinds.specs.Steps.{stepSize, stepAt, stepBytes, stepsOf, stepsBytes, step-kept, steps-none, steps-more, steps-length, steps-bytes-none, steps-bytes-one, steps-bytes-length, steps-bytes-append}
+use Rattle.kinds.specs.declared.step.Step.{Step}
+use Rattle.lent_lists.specs.Records.{usedBy, recordBy, recordCount, mapped, rewritten}
+
+pub past-the-end : (l : List ℕ) (i : ℕ) → length l ≤ i → 0 ≡ getD l i 0
+past-the-end [] i h = refl
+past-the-end (x ∷ l) zero h = absurd (omega arith)
+past-the-end (x ∷ l) (suc i) h = past-the-end l i (omega arith)
+
+pub mapped-append : (f : Step → Step) (xs ys : List Step) → mapped f (xs ++ ys) ≡ mapped f xs ++ mapped f ys
+unfolding mapped
+mapped-append f [] ys = refl
+mapped-append f (x ∷ xs) ys = ap (λ l. f x ∷ l) (mapped-append f xs ys)
+
+pub mapped-length : (f : Step → Step) (xs : List Step) → length (mapped f xs) ≡ length xs
+unfolding mapped
+mapped-length f [] = refl
+mapped-length f (x ∷ xs) = ap suc (mapped-length f xs)
+
+-- the bytes of the first k records, rewritten
+abbrev pub front : (Step → Step) → List ℕ → ℕ → List ℕ
+front f l k = stepsBytes (mapped f (stepsOf l k))
+
+front-length : (f : Step → Step) (l : List ℕ) (k : ℕ) → length (front f l k) ≡ stepSize * k
+front-length f l k = steps-bytes-length (mapped f (stepsOf l k)) ∙ ap (λ n. stepSize * n) (mapped-length f (stepsOf l k) ∙ steps-length l k)
+
+front-more : (f : Step → Step) (l : List ℕ) (k : ℕ) → front f l (suc k) ≡ front f l k ++ stepBytes (f (stepAt l (stepSize * k)))
+unfolding mapped
+front-more f l k =
+    rw (steps-more l k, mapped-append f (stepsOf l k), steps-bytes-append (mapped f (stepsOf l k)))
+    (ap (λ z. front f l k ++ z) (steps-bytes-one (f (stepAt l (stepSize * k)))))
+
+pub rewrite-begin : (f : Step → Step) (l : List ℕ) → l ≡ write l 0 (front f l 0)
+unfolding mapped
+rewrite-begin f l = rw (steps-none l, steps-bytes-none, write-none l 0)
+
+pub rewrite-room : (l l₁ ws : List ℕ) (n : ℕ) → l₁ ≡ write l 0 ws → n ≤ length l → n ≤ length l₁
+rewrite-room l l₁ ws n e h = rw (e, write-length l 0 ws) h
+
+pub rewrite-length : (l l₁ ws : List ℕ) → l₁ ≡ write l 0 ws → length l₁ ≡ length l
+rewrite-length l l₁ ws e = rw e (write-length l 0 ws)
+
+-- one record more
+pub rewrite-next :
+    (f : Step → Step) (l : List ℕ) (k : ℕ) (l₁ l₂ : List ℕ) → l₁ ≡ write l 0 (front f l k) → (x y : Step) → x ≡ stepAt l₁ (stepSize * k) → y ≡ f x →
+    l₂ ≡ write l₁ (stepSize * k) (stepBytes y) → l₂ ≡ write l 0 (front f l (k + 1))
+rewrite-next f l k l₁ l₂ e x y ex ey ew =
+    let n : length (front f l k) ≡ stepSize * k = front-length f l k in
+    let r : stepAt l₁ (stepSize * k) ≡ stepAt l (stepSize * k) = rw e (step-kept l 0 (front f l k) (stepSize * k) (inr (omega arith))) in
+    let w : write (write l 0 (front f l k)) (stepSize * k) (stepBytes (f (stepAt l (stepSize * k)))) ≡ write l 0 (front f l k ++ stepBytes (f (stepAt l (stepSize * k))))
+    = write-then l 0 (front f l k) (stepSize * k) (stepBytes (f (stepAt l (stepSize * k)))) (zero-add _ ∙ n) in
+    ew ∙ rw (ey, ex, r, e, add-one k, front-more f l k) w
+
+pub rewrite-end : (f : Step → Step) (l : List ℕ) (k : ℕ) (l₁ : List ℕ) → l₁ ≡ write l 0 (front f l k) → k ≤ recordCount l → recordCount l ≤ k → l₁ ≡ rewritten f l
+unfolding rewritten
+rewrite-end f l k l₁ e a b =
+    let n : recordCount l ≡ k = omega arith in
+    rw n e
+
+-- ---- a record, whatever its references become
+
+module _ (f : Reference → Reference) where
+  pub used-fixed : (u : Bool) (r x : Reference) → u ≡ true → x ≡ f r → x ≡ usedBy f u r
+  unfolding usedBy
+  used-fixed u r x h e = rw h e
+
+  pub unused-fixed : (u : Bool) (r : Reference) → u ≡ false → r ≡ usedBy f u r
+  unfolding usedBy
+  unused-fixed u r h = rw h
+
+  pub record-fixed :
+      (x : Step) (d a b c : Reference) → d ≡ f (x .dest) → a ≡ usedBy f (ltb 0 (x .count)) (x .s0) → b ≡ usedBy f (ltb 1 (x .count)) (x .s1) →
+      c ≡ usedBy f (ltb 2 (x .count)) (x .s2) → record { op = x .op; count = x .count; origin = x .origin; dest = d; s0 = a; s1 = b; s2 = c } ≡ recordBy f x
+  unfolding recordBy
+  record-fixed x d a b c ed ea eb ec = rw (ed, ea, eb, ec)

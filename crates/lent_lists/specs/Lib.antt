@@ -1,0 +1,5 @@
+-- The definitions that the contracts cite, and the laws on them that other crates use.
+pub mod Verdicts
+pub mod Records
+pub mod Walks
+pub mod Laws
