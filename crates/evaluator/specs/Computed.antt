@@ -30,7 +30,6 @@ use Rattle.pool.specs.Trees.{forest}
 use Rattle.pool.specs.Shaped.{Shaped}
 use Rattle.pool.specs.Verdict.{Verdict}
 use Rattle.pool.specs.Exactly as pool
-use Rattle.pool.specs.Exactly.{one-answer}
 use Rattle.pool.specs.Numbered.{poolOf}
 use Rattle.starkinfo_codegen.specs.Encoding.{encoded}
 use Rattle.requests.specs.Runs.{requestsOf, BytesRun}
@@ -67,10 +66,10 @@ pub record AnswersAll (i : Input) (m : ℕ) (ws out out′ : List ℕ) (r : Eval
 -- ── the proof ────────────────────────────────────────────────────────────────
 -- of a pool and accepted requests, plain or primed, none of which asks for a result
 module _ (p : Pool) (shaped : Shaped p) (few : length (p .nodes) ≤ nodeLimit) (acyclic : Acyclic (forest p)) (qs : List Request) (g : Segment) (plain : Each NoResult qs) (inRows : Each (λ q. q .row < 2) qs) (e : whole 2 (forest p) qs ≡ done g) where
-  says : Each (StepSays p) (g .first)
+  pub says : Each (StepSays p) (g .first)
   says = whole-says p shaped 2 qs g e
 
-  well-formed : goodList (encoded (g .first)) ≡ true
+  pub well-formed : goodList (encoded (g .first)) ≡ true
   well-formed = list-good p (g .first) says (first-in (forest p) qs g plain inRows e)
 
   module _ (m : ℕ) (ws : List ℕ) (fed : Throughout (Fed 2 (given m (lent ws))) (forest p)) where
@@ -107,43 +106,49 @@ formed : (ws : List ℕ) (m : ℕ) (list : List ℕ) → 2 ≤ m → goodList li
 unfolding wellFormed
 formed ws m list a b c = rw (le-leb 2 m a, b, c)
 
+-- a pool with its shape and without a cycle is admitted
+admitted : (p : Pool) → Shaped p → Acyclic (forest p) → (v : Answer (Unit {0})) → Verdict p [] v → v ≡ done tt
+admitted p s c v w = zero v (pool.exactly-0 p v w .1 (s, c))
+  where
+    zero : (v : Answer (Unit {0})) → answerNo v ≡ 0 → v ≡ done tt
+    zero (done u) e = refl
+    zero (refused k o) e = absurd (number-not-zero k e)
+
 -- FROM FRAMES: b their bytes, g the segment of their whole run
 module _ (b : List ℕ) (listRoom : ℕ) (g : Segment) (run : BytesRun b listRoom (done g)) (i : Input) (read : reading b ≡ done i) where
   from : readFrom nothing (framesIn b) ≡ done i
   from = sym (read-as b) ∙ read
 
-  few-nodes : length (i .nodes) ≤ nodeLimit
+  pub few-nodes : length (i .nodes) ≤ nodeLimit
   unfolding countsOf
   few-nodes = within-all (framesIn b) i from .nodes
+
+  pub rows-few : Each (λ (q : Request). q .row < 2) (requestsOf i)
+  rows-few = rows-low (i .requests) (ranged-all (framesIn b) i from .requests)
+
+  -- called with a list that is well formed and that computes these values, it answers them
+  pub computed-answers :
+      (m : ℕ) → 2 ≤ m → (ws : List ℕ) → goodValues ws ≡ true → (list : List ℕ) → goodList list ≡ true → (out : List ℕ) (vs : List Valued)
+      → ruling (broughtAt (poolOf i)) (lent ws) m list (length out) ≡ done vs → {out′ : List ℕ} {r : Evaluation} → EvaluationIs b list m ws out out′ r
+      → (answerSays r ≡ done (length vs)) × (out′ ≡ write out 0 (valuesBytes vs))
+  computed-answers m least ws good list w out vs e h =
+      let p = poolOf i in
+      let a = accepted p (requestsOf i) listRoom g (run .judged i read) in
+      let j = h .1 .judged i read (formed ws m list least w good) in
+      let v = admitted p (a .shaped) (a .acyclic) (j .0) (j .1) in
+      let z : h .0 ≡ done vs = j .2 ∙ ap (λ (x : Answer (Unit {0})). x then λ _. ruling (broughtAt p) (lent ws) m list (length out)) v ∙ e in
+      (h .2 .says ∙ ap (λ (x : Answer (List Valued)). x then λ us. done (length us)) z, h .2 .bytes ∙ ap (outAfter out) z)
 
   pub first-evaluates :
       (m : ℕ) → 2 ≤ m → (ws : List ℕ) → goodValues ws ≡ true → Throughout (Fed 2 (given m (lent ws))) (forest (poolOf i))
       → (out : List ℕ) → valuedSize * length (g .first) ≤ length out
       → {out′ : List ℕ} {r : Evaluation} → EvaluationIs b (encoded (g .first)) m ws out out′ r → AnswersAll i m ws out out′ r
-  first-evaluates m least ws good fed out fit {out′} {r} h =
+  first-evaluates m least ws good fed out fit h =
       let p = poolOf i in
       let qs = requestsOf i in
       let a = accepted p qs listRoom g (run .judged i read) in
-      let few : length (p .nodes) ≤ nodeLimit = few-nodes in
       let plain = plain-requests (i .requests) in
-      let rows = rows-low (i .requests) (ranged-all (framesIn b) i from .requests) in
-      let list = encoded (g .first) in
-      let w = well-formed p (a .shaped) few (a .acyclic) qs g plain rows (a .run) in
-      let vs = answered p (a .shaped) few (a .acyclic) qs g plain rows (a .run) m ws fed in
-      let j = h .1 .judged i read (formed ws m list least w good) in
-      let v = one-answer p [] (j .0) (done tt) (j .1) (admitted p (a .shaped) (a .acyclic) (j .0) (j .1)) in
-      let z : h .0 ≡ done vs = j .2 ∙ ap (λ (x : Answer (Unit {0})). x then λ _. ruling (broughtAt p) (lent ws) m list (length out)) v
-      ∙ ruling-is p (a .shaped) few (a .acyclic) qs g plain rows (a .run) m ws fed (length out) fit in
-      record {
-        values = vs;
-        says = h .2 .says ∙ ap (λ (x : Answer (List Valued)). x then λ us. done (length us)) z;
-        bytes = h .2 .bytes ∙ ap (outAfter out) z;
-        each = all-answered p (a .shaped) few (a .acyclic) qs g plain rows (a .run) m ws fed;
-      }
-    where
-      admitted : (p : Pool) → Shaped p → Acyclic (forest p) → (v : Answer (Unit {0})) → Verdict p [] v → Verdict p [] (done tt)
-      admitted p s c v w = subst (Verdict p []) (zero v (pool.exactly-0 p v w .1 (s, c))) w
-        where
-          zero : (v : Answer (Unit {0})) → answerNo v ≡ 0 → v ≡ done tt
-          zero (done u) e = refl
-          zero (refused k o) e = absurd (number-not-zero k e)
+      let w = well-formed p (a .shaped) few-nodes (a .acyclic) qs g plain rows-few (a .run) in
+      let e = ruling-is p (a .shaped) few-nodes (a .acyclic) qs g plain rows-few (a .run) m ws fed (length out) fit in
+      let k = computed-answers m least ws good (encoded (g .first)) w out _ e h in
+      record { values = _; says = k .0; bytes = k .1; each = all-answered p (a .shaped) few-nodes (a .acyclic) qs g plain rows-few (a .run) m ws fed }

@@ -4,3 +4,4 @@ pub mod Laws
 pub mod Exactly
 pub mod Conditions
 pub mod Computed
+pub mod ComputedFixed

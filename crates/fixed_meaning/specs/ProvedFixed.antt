@@ -1,13 +1,14 @@
 -- DEMAND 3, after fixing: proved, over every algebra and so over the integers and modulo every number from 2 up.
 -- Assumes nothing.
-use Prim.Native.Nat.{ℕ, _≤_}
+use Prim.Native.Nat.{ℕ, suc, _≤_}
 use mathlib.Core.Path.{_≡_, refl, sym, _∙_, ap, subst}
 use mathlib.Core.Option.{none, some, Option·none-ne-some}
-use mathlib.Core.List.{List, []}
+use mathlib.Core.List.{List, [], _∷_}
+use lib.ListN.{length}
 use mathlib.Core.Logic.{_⊎_, inl, inr}
 use Rattle.meaning.specs.Refusals.{done}
 use Rattle.meaning.specs.Trees.{Forest, Each}
-use Rattle.meaning.specs.Steps.{Kind, Cell, place, expCell}
+use Rattle.meaning.specs.Steps.{Kind, Cell, place, Step, expCell}
 use Rattle.meaning.specs.Values.{Algebra, Given}
 use Rattle.meaning.specs.Running.{empty}
 use Rattle.meaning.specs.Generation.{State, start, Request, serveAll}
@@ -48,17 +49,29 @@ settled-placed L M (Cell.cell (Kind.bare k) i r) h = h
 first-renamed : (L : Plan) (S : Segment) → fixSegment L S .first ≡ rename (fixCell L (fixEnd L S .map)) (S .first)
 first-renamed L S = ap (λ (z : Segment). z .first) (segment-renamed L S)
 
+renamed-length : (f : Cell → Cell) (xs : List Step) → length (rename f xs) ≡ length xs
+renamed-length f [] = refl
+renamed-length f (x ∷ xs) = ap suc (renamed-length f xs)
+
+-- as many steps as before
+pub fixed-steps : (L : Plan) (S : Segment) → length (fixSegment L S .first) ≡ length (S .first)
+fixed-steps L S = ap length (first-renamed L S) ∙ renamed-length (fixCell L (fixEnd L S .map)) (S .first)
+
 right : {A P : Type 0} (v : A) → (none ≡ some v) ⊎ P → P
 right v (inl q) = absurd (Option·none-ne-some v q)
 right v (inr q) = q
 
--- WHAT A GENERATED LIST COMPUTES, IT COMPUTES FIXED
+-- a first list, with whichever other two
+abbrev pub withLists : State → List Step → List Step → Segment
+withLists st i last = record { first = every (st .blocks); i = i; last = last; counter = st .counter }
+
+-- WHAT A GENERATED LIST COMPUTES, IT COMPUTES FIXED, whichever the other two lists of its segment are
 pub fixed-computes :
     (𝓐 : Algebra) (rows : ℕ) (G : Given (𝓐 .A)) (E : Forest) (L : Plan) → ColumnsDiffer L → Throughout (NoIntermediateRead L) E →
     (qs : List Request) → Each NoResult qs → (st : State) → serveAll rows E qs start ≡ done st →
-    Computes 𝓐 G E (segment E st .first) qs → ComputesFixed 𝓐 G E L (segment E st) qs
-fixed-computes 𝓐 rows G E L differ alone qs plain st h u =
-    let S = segment E st in
+    Computes 𝓐 G E (segment E st .first) qs → (i last : List Step) → ComputesFixed 𝓐 G E L (withLists st i last) qs
+fixed-computes 𝓐 rows G E L differ alone qs plain st h u i last =
+    let S = withLists st i last in
     let M = fixEnd L S .map in
     let f = fixCell L M in
     let P = Occurs L (st .counter) in
@@ -84,11 +97,11 @@ fixed-computes 𝓐 rows G E L differ alone qs plain st h u =
 -- DEMAND 3 AFTER FIXING
 pub demand3-fixed : (𝓐 : Algebra) → Demand3Fixed 𝓐
 demand3-fixed 𝓐 rows G E acyclic plain given L differ alone qs n st h =
-    fixed-computes 𝓐 rows G E L differ alone qs n st h (demand3 𝓐 rows G E acyclic plain given qs n st h)
+    fixed-computes 𝓐 rows G E L differ alone qs n st h (demand3 𝓐 rows G E acyclic plain given qs n st h) (segment E st .i) (segment E st .last)
 
 pub demand3-fixed-fed : (𝓐 : Algebra) → Demand3FixedFed 𝓐
 demand3-fixed-fed 𝓐 rows G E acyclic fed L differ alone qs n st h =
-    fixed-computes 𝓐 rows G E L differ alone qs n st h (demand3-fed 𝓐 rows G E acyclic fed qs n st h)
+    fixed-computes 𝓐 rows G E L differ alone qs n st h (demand3-fed 𝓐 rows G E acyclic fed qs n st h) (segment E st .i) (segment E st .last)
 
 pub demand3-fixed-integers : Demand3Fixed integers
 demand3-fixed-integers = demand3-fixed integers

@@ -11,7 +11,8 @@ use Rattle.kinds.specs.StepOps.{isStep, sourcesNeeded}
 use Rattle.kinds.specs.declared.reference.Reference.{Reference}
 use Rattle.kinds.specs.declared.step.Step.{Step}
 use Rattle.meaning.specs.Trees.{Each}
-use Rattle.lent_lists.specs.Records.{segmentIn, countedIn, goodLists}
+use Rattle.lists.specs.Records.{countedIn}
+use Rattle.lent_lists.specs.Records.{segmentIn, goodLists}
 use Rattle.fixing.specs.ProverCode.{lastCounter}
 
 -- the first of a list that is not fine meets the condition

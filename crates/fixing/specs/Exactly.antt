@@ -17,7 +17,8 @@ use Rattle.kinds.specs.declared.step.Step.{Step}
 use Rattle.meaning.specs.Trees.{Each, upTo}
 use Rattle.meaning.specs.Laws.Tests.{true-false, and-left, and-right}
 use Rattle.lent_lists.specs.Verdicts.{Verdict, fine, malformed, notThere, noRule, full, verdictNo, firstOf, only}
-use Rattle.lent_lists.specs.Records.{segmentIn, countedIn, goodLists, runs}
+use Rattle.lists.specs.Records.{countedIn}
+use Rattle.lent_lists.specs.Records.{segmentIn, goodLists, runs}
 use Rattle.lent_lists.specs.Walks.{walked, usedVerdict, recordVerdict}
 use Rattle.fixing.specs.ProverCode.{lastCounter, ruledReference, decided, temporaries, proverVerdict}
 use Rattle.fixing.specs.Answers.{ProverCodeIs}

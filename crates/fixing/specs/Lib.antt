@@ -2,9 +2,9 @@
 pub mod ProverCode
 pub mod Machine
 pub mod Answers
-pub mod Decoding
 pub mod Laws
 pub mod Said
 pub mod Conditions
 pub mod Exactly
 pub mod Examples
+pub mod Kept

@@ -24,10 +24,12 @@ use Rattle.meaning.specs.Building.{Segment}
 use Rattle.meaning.specs.Laws.Tests.{true-false, and-left, and-right}
 use Rattle.fixed_meaning.specs.Fixing.{fixSegment}
 use Rattle.lent_lists.specs.Verdicts.{Verdict, fine, malformed, notThere, noRule, full, verdictNo, firstOf, only}
-use Rattle.lent_lists.specs.Records.{recordsIn, countedIn, runs, goodReference, goodUsed, goodRecord, goodRecords, goodList, goodLists}
+use Rattle.lent_lists.specs.Laws.Records.{record-used}
+use Rattle.lists.specs.Records.{recordsIn, countedIn, goodReference, goodRecord, goodRecords, goodList}
+use Rattle.lent_lists.specs.Records.{runs, goodUsed, goodLists}
 use Rattle.lent_lists.specs.Walks.{walked, recordVerdict}
 use Rattle.fixing.specs.ProverCode.{ruledReference, planOf, lastCounter, decided, temporaries, proverVerdict, listAfter}
-use Rattle.fixing.specs.Decoding.{kindFrom, opFrom, refFrom, refsFrom, stepFrom, stepsFrom}
+use Rattle.lists.specs.Decoding.{kindFrom, opFrom, refFrom, refsFrom, stepFrom, stepsFrom}
 use Rattle.lent_lists.specs.Laws.Walks.{ruled-append}
 use Rattle.fixing.specs.Laws.Joined.{reference-range, counted-good, fixed-records-say, list-fixed}
 
@@ -139,8 +141,9 @@ module _ (literal : ℕ → Lit) where
       (x .0 ∷ xs .0, rw (x .1, xs .1))
 
   step-says : (x : bytes.Step) → goodRecord x ≡ true → runs x ≡ true → (y : Step) × (stepFrom literal x ≡ some y)
-  unfolding goodRecord runs stepFrom
-  step-says x g h =
+  unfolding runs stepFrom
+  step-says x good h =
+      let g = record-used x good in
       let few : x .count ≤ 3 = leb-true (x .count) 3 (and-left (leb (x .count) 3) _ g) in
       let g1 = and-right (leb (x .count) 3) _ g in
       let g2 = and-right (goodReference (x .dest)) _ g1 in

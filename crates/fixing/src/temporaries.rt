@@ -6,7 +6,8 @@ use kinds::step::STEP_SIZE;
 use kinds::step::Step;
 use kinds::step::nth_step;
 ghost use mathlib.Core.Path.{_≡_};
-ghost use Rattle.lent_lists.specs.Records.{recordsIn, segmentIn};
+ghost use Rattle.lists.specs.Records.{recordsIn};
+ghost use Rattle.lent_lists.specs.Records.{segmentIn};
 ghost use Rattle.fixing.specs.ProverCode.{ruleKind, ruleId, ruleDim, ruleFor};
 ghost use Rattle.fixing.specs.Machine.{takesTemporary, GiveIs, tables, giveReference, giveUsed, giveRecord, giveRecords};
 

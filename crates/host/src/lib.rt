@@ -15,6 +15,7 @@ use kinds::refusal::FULL;
 use kinds::refusal::MALFORMED;
 use kinds::refusal::NO_BLOCK;
 use kinds::refusal::NO_PRIMED_MARK;
+use kinds::refusal::NO_RULE;
 use kinds::refusal::NONE;
 use kinds::refusal::NOT_THERE;
 ghost use mathlib.Core.Path.{_≡_};
@@ -23,9 +24,6 @@ ghost use Rattle.codegen.specs.Committing.{servedSays};
 ghost use Rattle.codegen.specs.Building.{builtSays, lists};
 ghost use Rattle.evaluator.specs.Answer.{answerSays};
 ghost use Rattle.host.specs.Numbered.{FreshNumbered, ServeNumbered, BuildNumbered, EvaluateNumbered, sizesTold, cellsTold, wanted};
-
-// The evaluator's own refusal.
-const NO_RULE: u8 = 10;
 
 fn served_number(r: Served) -> u8
     ensures { λ n. ⌜ n ≡ answerNo (servedSays r) ⌝ }

@@ -16,3 +16,5 @@ pub const NO_PRIMED_MARK: u8 = 7;
 pub const NO_BLOCK: u8 = 8;
 
 pub const FULL: u8 = 9;
+
+pub const NO_RULE: u8 = 10;

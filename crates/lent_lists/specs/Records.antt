@@ -1,59 +1,25 @@
--- The records of a lent list: when they are well formed, which sources count, and a list with each of its records rewritten.
--- A record is malformed (1) where it counts more than three sources, or where its destination or one of the sources that it counts has an unknown
--- kind or a prime other than 0 and 1.
+-- The lists of a segment: when they are well formed, which of a record's sources count, and a list with each of its records rewritten.
 -- Assumes nothing: these are definitions.
-use Prim.Native.Nat.{ℕ, _/_, _%_}
+use Prim.Native.Nat.{ℕ}
 use mathlib.Core.Bool.{Bool, true, cond, _&&_}
 use mathlib.Core.List.{List, [], _∷_, _++_}
-use lib.ListN.{length}
-use lib.Dec.{eqb, leb, ltb}
-use Rattle.kinds.specs.Kinds.{isReference}
+use lib.Dec.{leb, ltb}
 use Rattle.kinds.specs.StepOps.{isStep, sourcesNeeded}
 use Rattle.kinds.specs.Write.{write}
-use Rattle.kinds.specs.Steps.{stepSize, stepsOf, stepsBytes}
+use Rattle.kinds.specs.Steps.{stepsBytes}
 use Rattle.kinds.specs.declared.reference.Reference.{Reference}
 use Rattle.kinds.specs.declared.step.Step.{Step}
-use Rattle.meaning.specs.Trees.{upTo}
-
--- how many whole records there are, and the records
-abbrev pub recordCount : List ℕ → ℕ
-recordCount l = length l / stepSize
-
-abbrev pub recordsIn : List ℕ → List Step
-recordsIn l = stepsOf l (recordCount l)
+use Rattle.lists.specs.Records.{recordsIn, goodReference, goodList}
 
 -- those of a segment's lists, in the order of the walk
 abbrev pub segmentIn : List ℕ → List ℕ → List ℕ → List Step
 segmentIn first i last = recordsIn first ++ (recordsIn i ++ recordsIn last)
 
--- the sources that a record counts
-abbrev pub countedIn : Step → List Reference
-countedIn x = upTo (x .count) (x .s0 ∷ x .s1 ∷ x .s2 ∷ [])
-
 -- ---- well formed
-
-unfoldable pub goodReference : Reference → Bool
-goodReference r = isReference (r .kind) && leb (r .prime) 1
 
 -- a source that does not count is not looked at
 unfoldable pub goodUsed : Bool → Reference → Bool
 goodUsed used r = cond used (goodReference r) true
-
-unfoldable pub goodRecord : Step → Bool
-goodRecord x =
-    leb (x .count) 3
-    && (goodReference (x .dest)
-    && (goodUsed (ltb 0 (x .count)) (x .s0)
-    && (goodUsed (ltb 1 (x .count)) (x .s1)
-    && goodUsed (ltb 2 (x .count)) (x .s2))))
-
-unfoldable pub goodRecords : List Step → Bool
-goodRecords [] = true
-goodRecords (x ∷ xs) = goodRecord x && goodRecords xs
-
--- no record is cut short, and each is well formed
-unfoldable pub goodList : List ℕ → Bool
-goodList l = eqb (length l % stepSize) 0 && goodRecords (recordsIn l)
 
 unfoldable pub goodLists : List ℕ → List ℕ → List ℕ → Bool
 goodLists first i last = goodList first && (goodList i && goodList last)

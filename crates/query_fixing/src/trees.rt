@@ -1,17 +1,18 @@
 // A cm's tree, by its record in "2ns": kind, position and dimension in one number.
 use kinds::kind::Kind;
 use kinds::reference::Reference;
+use kinds::refusal::NO_RULE;
 use kinds::refusal::NONE;
 use kinds::refusal::NOT_THERE;
 use kinds::step::STEP_SIZE;
 use kinds::step::Step;
 use kinds::step::nth_step;
 use kinds::step::put_nth_step;
-use lent_lists::records::NO_RULE;
 use lent_lists::records::has_step;
 ghost use mathlib.Core.Path.{_≡_};
 ghost use Rattle.lent_lists.specs.Verdicts.{verdictNo};
-ghost use Rattle.lent_lists.specs.Records.{recordsIn, segmentIn, usedBy, recordBy, rewritten};
+ghost use Rattle.lists.specs.Records.{recordsIn};
+ghost use Rattle.lent_lists.specs.Records.{segmentIn, usedBy, recordBy, rewritten};
 ghost use Rattle.lent_lists.specs.Walks.{walked, usedVerdict, recordVerdict};
 ghost use Rattle.query_fixing.specs.QueryCode.{treeFor, hasTree, treedReference, treeReference};
 

@@ -3,36 +3,10 @@ use crate::text::put_decimal;
 use crate::text::put_text;
 use frames::count::NODE_LIMIT;
 use frames::tables::NODE_WORDS;
-use frames::tables::kind_at;
-use frames::tables::sign_at;
-use kinds::kind::Kind;
-use kinds::literal::Literal;
-ghost use mathlib.Core.Path.{_≡_};
-ghost use Rattle.output.specs.Records.{litOf, literalIn};
+use output::line::literal_of;
 ghost use Prim.Native.Nat.{_≤_};
 ghost use lib.ListN.{length};
 ghost use Rattle.readable.specs.Pages.{Puts};
-
-const ZERO: Literal = Literal {
-    negative: false,
-    magnitude: 0,
-};
-
-// What a node brings: neg brings 0.
-fn literal_of(nodes: &[u64; NODE_WORDS], literals: &[u64; NODE_LIMIT], n: usize) -> Literal
-    ensures { λ r. ⌜ litOf r ≡ literalIn (now (nodes .entry)) (now (literals .entry)) n ⌝ }
-{
-    if NODE_LIMIT <= n {
-        return ZERO;
-    }
-    if Kind::carries_literal(kind_at(nodes, n)) {
-        return Literal {
-            negative: sign_at(nodes, n) == 1,
-            magnitude: literals[n],
-        };
-    }
-    ZERO
-}
 
 // The literal that a node brings. Its minus has no space behind it, and so is no subtraction's.
 pub fn put_literal(

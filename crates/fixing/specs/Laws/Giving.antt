@@ -13,7 +13,8 @@ use Rattle.kinds.specs.KindBytes as kind
 use Rattle.kinds.specs.Steps.{stepSize, stepAt, stepsOf, steps-none, steps-more}
 use Rattle.kinds.specs.declared.reference.Reference.{Reference}
 use Rattle.kinds.specs.declared.step.Step.{Step}
-use Rattle.lent_lists.specs.Records.{recordCount, recordsIn, segmentIn}
+use Rattle.lists.specs.Records.{recordCount, recordsIn}
+use Rattle.lent_lists.specs.Records.{segmentIn}
 use Rattle.fixing.specs.ProverCode.{lastCounter, ruleKind, ruleFor}
 use Rattle.fixing.specs.Machine.{takesTemporary, over, tableAfter, counterAfter, GiveIs, Tables, tables, giveReference, giveUsed, giveRecord, giveRecords}
 

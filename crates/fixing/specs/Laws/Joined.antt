@@ -26,9 +26,11 @@ use Rattle.fixed_meaning.specs.Fixing.{Plan, Map, Fixing, begin, become, rename
 use Rattle.fixed_meaning.specs.Renaming.{renameRefs, renameStep, rename}
 use Rattle.fixed_meaning.specs.FixingLaws.{segment-renamed}
 use Rattle.lent_lists.specs.Verdicts.{fine}
-use Rattle.lent_lists.specs.Records.{recordCount, recordsIn, countedIn, goodReference, goodUsed, goodRecord, goodRecords, goodList, goodLists, recordBy, usedBy, mapped, rewritten}
+use Rattle.lent_lists.specs.Laws.Records.{record-used}
+use Rattle.lists.specs.Records.{recordCount, recordsIn, countedIn, goodReference, goodRecord, goodRecords, goodList}
+use Rattle.lent_lists.specs.Records.{goodUsed, goodLists, recordBy, usedBy, mapped, rewritten}
 use Rattle.fixing.specs.ProverCode.{ruleFor, ruleDim, planOf, meetReference, meetUsed, meetRecord, meetRecords, fixExpression, placed, fixReference, fixRecord, temporaries, proverVerdict, listAfter}
-use Rattle.fixing.specs.Decoding.{kindFrom, opFrom, refFrom, refsFrom, stepFrom, stepsFrom}
+use Rattle.lists.specs.Decoding.{kindFrom, opFrom, refFrom, refsFrom, stepFrom, stepsFrom}
 use Rattle.lent_lists.specs.Laws.Rewriting.{mapped-length}
 
 -- ---- kinds
@@ -248,8 +250,9 @@ module _ (literal : ℕ → Lit) (rules cms : List ℕ) where
 
   joined-step : (x : bytes.Step) (y : Step) → goodRecord x ≡ true → stepFrom literal x ≡ some y →
       ((s : Fixing) → meetRecord L x s ≡ fixStep L y s .after) × ((m : Map) → stepFrom literal (fixRecord rules cms m x) ≡ some (renameStep (fixCell L m) y))
-  unfolding stepFrom meetRecord recordBy goodRecord
-  joined-step x y g e =
+  unfolding stepFrom meetRecord recordBy
+  joined-step x y good e =
+      let g = record-used x good in
       let few : x .count ≤ 3 = leb-true (x .count) 3 (and-left (leb (x .count) 3) _ g) in
       let g1 = and-right (leb (x .count) 3) _ g in
       let gd = and-left (goodReference (x .dest)) _ g1 in

@@ -20,7 +20,8 @@ use Rattle.meaning.specs.Trees.{Each}
 use Rattle.meaning.specs.Laws.Tests.{true-false, and-left, and-right, each-join}
 use Rattle.fixed_meaning.specs.Fixing.{Fixing, begin}
 use Rattle.lent_lists.specs.Verdicts.{Verdict, fine, malformed, notThere, noRule, full, verdictNo, firstOf, only}
-use Rattle.lent_lists.specs.Records.{recordCount, recordsIn, segmentIn, goodReference, goodUsed, goodRecord, goodRecords, goodList, goodLists, recordBy, rewritten}
+use Rattle.lists.specs.Records.{recordCount, recordsIn, goodReference, goodRecord, goodRecords, goodList}
+use Rattle.lent_lists.specs.Records.{segmentIn, goodUsed, goodLists, recordBy, rewritten}
 use Rattle.lent_lists.specs.Walks.{walked, recordVerdict}
 use Rattle.fixing.specs.ProverCode.{lastCounter, ruledReference, decided, temporaries, proverVerdict, listAfter}
 use Rattle.fixing.specs.Machine.{Tables, tables, giveRecords, referenceIn, Rewrites}
@@ -28,7 +29,8 @@ use Rattle.fixing.specs.Answers.{ProverCodeIs, fixedOf}
 use Rattle.fixing.specs.declared.fix_prover_code.Fixed.{Fixed}
 use Rattle.fixing.specs.declared.fix_prover_code.Fixed.the-variants as fixed
 use Rattle.lent_lists.specs.Laws.Verdicts.{no-refusal}
-use Rattle.lent_lists.specs.Laws.Records.{good-more}
+use Rattle.lists.specs.Laws.{good-more}
+use Rattle.lent_lists.specs.Laws.Records.{record-used}
 use Rattle.lent_lists.specs.Laws.Walks.{Met, only-met, walk-met, is-malformed, is-not-there, is-no-rule}
 use Rattle.fixing.specs.Laws.Tracks.{idLimit, Shows, Tracks, exact, past, Sound, SoundIf, SoundRecord, track-records, records-same}
 
@@ -52,10 +54,10 @@ sound-used l i b true h = λ _. sound-ref l i b h
 sound-used l i b false h = λ q. absurd (true-false q refl)
 
 sound-record : (l : List ℕ) (i : ℕ) → Bytes l → goodRecord (stepAt l i) ≡ true → SoundRecord (stepAt l i)
-unfolding goodRecord stepAt
+unfolding stepAt
 sound-record l i b h =
     let c = getD l (i + 1) 0 in
-    let h1 = and-right (leb c 3) _ h in
+    let h1 = and-right (leb c 3) _ (record-used (stepAt l i) h) in
     let gd = and-left (goodReference (refAt l (i + 4))) _ h1 in
     let h2 = and-right (goodReference (refAt l (i + 4))) _ h1 in
     let g0 = and-left (goodUsed (ltb 0 c) (refAt l (i + 16))) _ h2 in

@@ -1,142 +1,40 @@
--- Laws of well-formed records: what each way through the code answers.
+-- Laws of well-formed segments and of a step: what each way through the code answers, and a record by the sources that count.
 -- Assumes nothing.
-use Prim.Native.Nat.{ℕ, zero, suc, _+_, _*_, _%_, _<_, _≤_}
-use mathlib.Core.Path.{_≡_, refl, sym, _∙_}
+use Prim.Native.Nat.{ℕ, zero, suc, _≤_}
+use mathlib.Core.Path.{_≡_, refl, sym, _∙_, ap}
 use mathlib.Core.Bool.{Bool, true, false, _&&_}
-use mathlib.Core.List.{List, [], _∷_, _++_}
-use mathlib.Core.Logic.{_⊎_, inl, inr}
-use native.Mathlib.Nat.{eq-or-lt-of-le, div-add-mod'}
-use native.Mathlib.Numerals.{add-one}
+use mathlib.Core.List.{List, [], _∷_}
 use native.Mathlib.Omega.{arith}
-use lib.ListN.{length}
 use lib.Dec.{leb, ltb}
-use borrow.Author.Tests.{le-leb, lt-leb, eq-eqb, ne-eqb}
-use Rattle.kinds.specs.Kinds.{isReference}
+use borrow.Author.Tests.{leb-true}
 use Rattle.kinds.specs.StepOps.{isStep, sourcesNeeded}
-use Rattle.kinds.specs.Steps.{stepSize, stepAt, stepsOf, steps-none, steps-more}
 use Rattle.kinds.specs.declared.reference.Reference.{Reference}
 use Rattle.kinds.specs.declared.step.Step.{Step}
-use Rattle.lent_lists.specs.Records.{recordCount, goodReference, goodUsed, goodRecord, goodRecords, goodList, goodLists, runs}
+use Rattle.meaning.specs.Trees.{upTo}
+use Rattle.meaning.specs.Laws.Tests.{and-left}
+use Rattle.lists.specs.Records.{goodReference, goodReferences, goodRecord, goodList}
+use Rattle.lent_lists.specs.Records.{goodUsed, goodLists, runs}
 
--- ---- a reference
+-- ---- a record, source by source
 
-pub ref-good : (r : Reference) (b : Bool) → b ≡ isReference (r .kind) → b ≡ true → leb (r .prime) 1 ≡ goodReference r
-unfolding goodReference
-ref-good r b e h =
-    let z : isReference (r .kind) ≡ true = sym e ∙ h in
-    rw z
-
-pub ref-bad : (r : Reference) (b : Bool) → b ≡ isReference (r .kind) → b ≡ false → false ≡ goodReference r
-unfolding goodReference
-ref-bad r b e h =
-    let z : isReference (r .kind) ≡ false = sym e ∙ h in
-    rw z
-
-pub used-good : (u : Bool) (r : Reference) (b : Bool) → u ≡ true → b ≡ goodReference r → b ≡ goodUsed u r
-unfolding goodUsed
-used-good u r b h e = rw h e
-
-pub unused-good : (u : Bool) (r : Reference) → u ≡ false → true ≡ goodUsed u r
-unfolding goodUsed
-unused-good u r h = rw h
-
--- ---- a record
-
-false-right : (a : Bool) → (a && false) ≡ false
-false-right true = refl
-false-right false = refl
+abbrev pub usedGood : ℕ → Bool → Reference → Reference → Reference → Bool
+usedGood c dest a b d = leb c 3 && (dest && (goodUsed (ltb 0 c) a && (goodUsed (ltb 1 c) b && goodUsed (ltb 2 c) d)))
 
 true-right : (a : Bool) → (a && true) ≡ a
 true-right true = refl
 true-right false = refl
 
-pub too-many : (x : Step) → 3 < x .count → false ≡ goodRecord x
+by-count : (c : ℕ) (dest : Bool) (a b d : Reference) → (leb c 3 && (dest && goodReferences (upTo c (a ∷ b ∷ d ∷ [])))) ≡ true → usedGood c dest a b d ≡ true
+unfolding goodReferences goodUsed
+by-count zero dest a b d h = h
+by-count (suc zero) dest a b d h = h
+by-count (suc (suc zero)) dest a b d h = h
+by-count (suc (suc (suc zero))) dest a b d h = sym (ap (λ z. dest && (goodReference a && (goodReference b && z))) (true-right (goodReference d))) ∙ h
+by-count (suc (suc (suc (suc c)))) dest a b d h = absurd (omega (arith, leb-true (suc (suc (suc (suc c)))) 3 (and-left _ _ h)))
+
+pub record-used : (x : Step) → goodRecord x ≡ true → usedGood (x .count) (goodReference (x .dest)) (x .s0) (x .s1) (x .s2) ≡ true
 unfolding goodRecord
-too-many x h = rw (lt-leb (x .count) 3 h)
-
-module _ (x : Step) (few : x .count ≤ 3) (a : Bool) (ea : a ≡ goodReference (x .dest)) where
-  pub dest-bad : a ≡ false → false ≡ goodRecord x
-  unfolding goodRecord
-  dest-bad h =
-      let z : goodReference (x .dest) ≡ false = sym ea ∙ h in
-      rw (le-leb (x .count) 3 few, z)
-
-  module _ (ha : a ≡ true) (b : Bool) (eb : b ≡ goodUsed (ltb 0 (x .count)) (x .s0)) where
-    pub first-bad : b ≡ false → false ≡ goodRecord x
-    unfolding goodRecord
-    first-bad h =
-        let z : goodReference (x .dest) ≡ true = sym ea ∙ ha in
-        let y : goodUsed (ltb 0 (x .count)) (x .s0) ≡ false = sym eb ∙ h in
-        rw (le-leb (x .count) 3 few, z, y)
-
-    module _ (hb : b ≡ true) (c : Bool) (ec : c ≡ goodUsed (ltb 1 (x .count)) (x .s1)) where
-      pub second-bad : c ≡ false → false ≡ goodRecord x
-      unfolding goodRecord
-      second-bad h =
-          let z : goodReference (x .dest) ≡ true = sym ea ∙ ha in
-          let y : goodUsed (ltb 0 (x .count)) (x .s0) ≡ true = sym eb ∙ hb in
-          let w : goodUsed (ltb 1 (x .count)) (x .s1) ≡ false = sym ec ∙ h in
-          rw (le-leb (x .count) 3 few, z, y, w)
-
-      pub third-is : c ≡ true → (d : Bool) → d ≡ goodUsed (ltb 2 (x .count)) (x .s2) → d ≡ goodRecord x
-      unfolding goodRecord
-      third-is hc d ed =
-          let z : goodReference (x .dest) ≡ true = sym ea ∙ ha in
-          let y : goodUsed (ltb 0 (x .count)) (x .s0) ≡ true = sym eb ∙ hb in
-          let w : goodUsed (ltb 1 (x .count)) (x .s1) ≡ true = sym ec ∙ hc in
-          rw (le-leb (x .count) 3 few, z, y, w) ed
-
--- ---- a list
-
-pub good-append : (xs ys : List Step) → goodRecords (xs ++ ys) ≡ (goodRecords xs && goodRecords ys)
-unfolding goodRecords
-good-append [] ys = refl
-good-append (x ∷ xs) ys = by (goodRecord x) (good-append xs ys)
-  where
-    by : (b : Bool) → goodRecords (xs ++ ys) ≡ (goodRecords xs && goodRecords ys) → (b && goodRecords (xs ++ ys)) ≡ ((b && goodRecords xs) && goodRecords ys)
-    by true e = e
-    by false e = refl
-
-pub good-more : (l : List ℕ) (n : ℕ) → goodRecords (stepsOf l (suc n)) ≡ (goodRecords (stepsOf l n) && goodRecord (stepAt l (stepSize * n)))
-unfolding goodRecords
-good-more l n = rw (steps-more l n, good-append) (rw (true-right (goodRecord (stepAt l (stepSize * n)))))
-
-pub good-begin : (l : List ℕ) → goodRecords (stepsOf l 0) ≡ true
-unfolding goodRecords
-good-begin l = rw (steps-none l)
-
-module _ (l : List ℕ) (k : ℕ) (x : Step) (e : x ≡ stepAt l (stepSize * k)) (b : Bool) (f : b ≡ goodRecord x) where
-  pub good-next : goodRecords (stepsOf l k) ≡ true → b ≡ true → goodRecords (stepsOf l (k + 1)) ≡ true
-  good-next h g =
-      let z : goodRecord (stepAt l (stepSize * k)) ≡ true = rw (← e) (sym f ∙ g) in
-      rw (add-one k, good-more l k, h, z)
-
-  bad-later : (n : ℕ) → k < n → goodRecord (stepAt l (stepSize * k)) ≡ false → goodRecords (stepsOf l n) ≡ false
-  bad-later zero h z = absurd (omega arith)
-  bad-later (suc n) h z = by (eq-or-lt-of-le {n = k} {m = n} (omega arith)) (bad-later n)
-    where
-      by : (k ≡ n) ⊎ (k < n) → (k < n → goodRecord (stepAt l (stepSize * k)) ≡ false → goodRecords (stepsOf l n) ≡ false) → goodRecords (stepsOf l (suc n)) ≡ false
-      by (inl q) ih = rw (good-more l n, ← q, z, false-right (goodRecords (stepsOf l k)))
-      by (inr g) ih = rw (good-more l n, ih g z)
-
-  pub good-stop : k < recordCount l → length l % stepSize ≡ 0 → b ≡ false → false ≡ goodList l
-  unfolding goodList
-  good-stop h w g =
-      let z : goodRecord (stepAt l (stepSize * k)) ≡ false = rw (← e) (sym f ∙ g) in
-      rw (eq-eqb (length l % stepSize) 0 w, bad-later (recordCount l) h z)
-
-pub good-cut : (l : List ℕ) → (length l % stepSize ≡ 0 → ⊥) → false ≡ goodList l
-unfolding goodList
-good-cut l h = rw (ne-eqb (length l % stepSize) 0 h)
-
-pub good-end : (l : List ℕ) (k : ℕ) → goodRecords (stepsOf l k) ≡ true → k ≤ recordCount l → recordCount l ≤ k → length l % stepSize ≡ 0 → true ≡ goodList l
-unfolding goodList
-good-end l k h a b w =
-    let n : recordCount l ≡ k = omega arith in
-    rw (eq-eqb (length l % stepSize) 0 w, n, h)
-
-pub record-in : (l : List ℕ) (k : ℕ) → k < recordCount l → stepSize * k + stepSize ≤ length l
-record-in l k h = omega (arith, div-add-mod' (length l) stepSize)
+record-used x h = by-count (x .count) (goodReference (x .dest)) (x .s0) (x .s1) (x .s2) h
 
 -- ---- three lists
 

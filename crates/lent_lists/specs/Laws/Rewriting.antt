@@ -14,7 +14,8 @@ use Rattle.kinds.specs.declared.reference.Reference.{Reference}
 use Rattle.kinds.specs.Write.{write, write-none, write-length, write-then}
 use Rattle.kinds.specs.Steps.{stepSize, stepAt, stepBytes, stepsOf, stepsBytes, step-kept, steps-none, steps-more, steps-length, steps-bytes-none, steps-bytes-one, steps-bytes-length, steps-bytes-append}
 use Rattle.kinds.specs.declared.step.Step.{Step}
-use Rattle.lent_lists.specs.Records.{usedBy, recordBy, recordCount, mapped, rewritten}
+use Rattle.lists.specs.Records.{recordCount}
+use Rattle.lent_lists.specs.Records.{usedBy, recordBy, mapped, rewritten}
 
 pub past-the-end : (l : List ℕ) (i : ℕ) → length l ≤ i → 0 ≡ getD l i 0
 past-the-end [] i h = refl

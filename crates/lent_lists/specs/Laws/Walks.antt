@@ -12,7 +12,8 @@ use Rattle.kinds.specs.Steps.{stepSize, stepAt, stepsOf, steps-none, steps-more
 use Rattle.kinds.specs.declared.reference.Reference.{Reference}
 use Rattle.kinds.specs.declared.step.Step.{Step}
 use Rattle.lent_lists.specs.Verdicts.{Verdict, verdictNo, firstOf, fine, malformed, notThere, noRule, full, only}
-use Rattle.lent_lists.specs.Records.{recordCount, recordsIn, segmentIn, runs}
+use Rattle.lists.specs.Records.{recordCount, recordsIn}
+use Rattle.lent_lists.specs.Records.{segmentIn, runs}
 use Rattle.lent_lists.specs.Walks.{walked, usedVerdict, recordVerdict}
 use Rattle.lent_lists.specs.Laws.Verdicts.{goes-on, stops, first-append, first-fine}
 

@@ -4,9 +4,10 @@ use Prim.Native.Nat.{_≤_, _-_}
 use mathlib.Core.Path.{_≡_}
 use native.Mathlib.Omega.{arith}
 use Rattle.kinds.specs.Write.{write}
-use Rattle.lent_lists.specs.Records.{recordCount, recordBy}
+use Rattle.lists.specs.Records.{recordCount}
+use Rattle.lent_lists.specs.Records.{recordBy}
 use Rattle.fixing.specs.Machine.{referenceIn}
-use Rattle.lent_lists.specs.Laws.Records.{record-in}
+use Rattle.lists.specs.Laws.{record-in}
 use Rattle.lent_lists.specs.Laws.Rewriting.{front, rewrite-begin, rewrite-room, rewrite-length, rewrite-next, rewrite-end}
 use Rattle.fixing.proofs.rewrite.fix_list.Statement.{statement}
 use Rattle.fixing.proofs.rewrite.fix_list.Tie as tie

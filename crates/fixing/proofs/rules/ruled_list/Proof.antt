@@ -5,10 +5,10 @@ use mathlib.Core.Path.{_≡_}
 use native.Mathlib.Omega.{arith}
 use Rattle.kinds.specs.Steps.{stepsOf}
 use Rattle.lent_lists.specs.Verdicts.{verdictNo}
-use Rattle.lent_lists.specs.Records.{recordCount}
+use Rattle.lists.specs.Records.{recordCount}
 use Rattle.lent_lists.specs.Walks.{walked, recordVerdict}
 use Rattle.fixing.specs.ProverCode.{ruledReference}
-use Rattle.lent_lists.specs.Laws.Records.{record-in}
+use Rattle.lists.specs.Laws.{record-in}
 use Rattle.lent_lists.specs.Laws.Walks.{ruled-begin, ruled-next, ruled-stop, ruled-end}
 use Rattle.fixing.proofs.rules.ruled_list.Statement.{statement}
 use Rattle.fixing.proofs.rules.ruled_list.Tie as tie

@@ -4,9 +4,9 @@ use Prim.Native.Nat.{_≤_, _-_}
 use mathlib.Core.Path.{_≡_}
 use native.Mathlib.Omega.{arith}
 use Rattle.kinds.specs.Steps.{stepsOf}
-use Rattle.lent_lists.specs.Records.{recordCount}
+use Rattle.lists.specs.Records.{recordCount}
 use Rattle.fixing.specs.Machine.{tables, giveRecords}
-use Rattle.lent_lists.specs.Laws.Records.{record-in}
+use Rattle.lists.specs.Laws.{record-in}
 use Rattle.fixing.specs.Laws.Giving.{give-begin, give-next, give-end}
 use Rattle.fixing.proofs.temporaries.give_list.Statement.{statement}
 use Rattle.fixing.proofs.temporaries.give_list.Tie as tie
