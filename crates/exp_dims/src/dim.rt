@@ -35,53 +35,25 @@ fn tree_dim(
         if 0 < seen {
             return (seen - 1) as u16;
         }
-        let d = tree_dim(
-            nodes,
-            expressions,
-            table,
-            dims,
-            known,
-            levels - 1,
-            root(expressions, e),
-        );
+        let top = root(expressions, e);
+        let d = tree_dim(nodes, expressions, table, dims, known, levels - 1, top);
         known[e] = d as u64 + 1;
         return d;
     }
-    let a = tree_dim(
-        nodes,
-        expressions,
-        table,
-        dims,
-        known,
-        levels,
-        child(nodes, i, 0),
-    );
+    let c0 = child(nodes, i, 0);
+    let a = tree_dim(nodes, expressions, table, dims, known, levels, c0);
     let first = larger(BASE, a);
     if count == 1 {
         return first;
     }
-    let b = tree_dim(
-        nodes,
-        expressions,
-        table,
-        dims,
-        known,
-        levels,
-        child(nodes, i, 1),
-    );
+    let c1 = child(nodes, i, 1);
+    let b = tree_dim(nodes, expressions, table, dims, known, levels, c1);
     let second = larger(first, b);
     if count == 2 {
         return second;
     }
-    let c = tree_dim(
-        nodes,
-        expressions,
-        table,
-        dims,
-        known,
-        levels,
-        child(nodes, i, 2),
-    );
+    let c2 = child(nodes, i, 2);
+    let c = tree_dim(nodes, expressions, table, dims, known, levels, c2);
     larger(second, c)
 }
 

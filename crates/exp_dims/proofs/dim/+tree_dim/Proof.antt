@@ -67,14 +67,14 @@ tree-dim-cast-result t c = omega (arith, seen-low (c .before .before .before .be
 tree-dim-returns-2 : (t : ℕ) → tree-dim-lts.Need-returns-2 (tree-dim-claims t) (tree-dim-at t) tree-dim.Post
 tree-dim-returns-2 t c = λ l n m rank a. seen-gives a (c .before .before .before .before .before .before .before .count-at .ensures) (c .before .before .before .before .before .before .if1 .taken) (ap foundAt (sym (c .before .before .before .e .given .1)) ∙ c .before .before .before .before .before .lead .ensures) refl (c .if2 .taken)
 
-tree-dim-sub-tree-dim : (t : ℕ) → tree-dim-lts.Need-sub-tree-dim (tree-dim-claims t) (tree-dim-at t) tree-dim.Post
-tree-dim-sub-tree-dim t c = some-levels (c .before .before .before .before .before .before .before .before .before .before .before .pre .1 .4) (c .before .before .before .before .before .before .before .before .count-at .ensures) (c .before .before .before .before .before .before .before .if1 .taken) (ap foundAt (sym (c .before .before .before .before .e .given .1)) ∙ c .before .before .before .before .before .before .lead .ensures)
-
 tree-dim-root-requires : (t : ℕ) → tree-dim-lts.Need-root-requires (tree-dim-claims t) (tree-dim-at t) tree-dim.Post
-tree-dim-root-requires t c κs = exp-room (c .before .before .before .before .before .before .before .before .before .before .before .pre .1 .4) (c .before .before .before .before .before .before .before .before .count-at .ensures) (c .before .before .before .before .before .before .before .if1 .taken) (ap foundAt (sym (c .before .before .before .before .e .given .1)) ∙ c .before .before .before .before .before .before .lead .ensures)
+tree-dim-root-requires t c κs = exp-room (c .before .before .before .before .before .before .before .before .before .before .pre .1 .4) (c .before .before .before .before .before .before .before .count-at .ensures) (c .before .before .before .before .before .before .if1 .taken) (ap foundAt (sym (c .before .before .before .e .given .1)) ∙ c .before .before .before .before .before .lead .ensures)
+
+tree-dim-sub-tree-dim : (t : ℕ) → tree-dim-lts.Need-sub-tree-dim (tree-dim-claims t) (tree-dim-at t) tree-dim.Post
+tree-dim-sub-tree-dim t c = some-levels (c .before .before .before .before .before .before .before .before .before .before .before .before .pre .1 .4) (c .before .before .before .before .before .before .before .before .before .count-at .ensures) (c .before .before .before .before .before .before .before .before .if1 .taken) (ap foundAt (sym (c .before .before .before .before .before .e .given .1)) ∙ c .before .before .before .before .before .before .before .lead .ensures)
 
 tree-dim-tree-dim-requires : (t : ℕ) → tree-dim-lts.Need-tree-dim-requires (tree-dim-claims t) (tree-dim-at t) tree-dim.Post
-tree-dim-tree-dim-requires t c κs = let P = c .before .before .before .before .before .before .before .before .before .before .before .before .pre in let a = P .1 .4 in let h = ap foundAt (sym (c .before .before .before .before .before .e .given .1)) ∙ c .before .before .before .before .before .before .before .lead .ensures in (omega (arith, P .0, root-less a (c .before .before .before .before .before .before .before .before .before .count-at .ensures) (c .before .before .before .before .before .before .before .before .if1 .taken) h (c .root .ensures)), (P .1 .0, P .1 .1, P .1 .2, P .1 .3, root-asks a (c .before .before .before .before .before .before .before .before .before .count-at .ensures) (c .before .before .before .before .before .before .before .before .if1 .taken) h (c .root .ensures)))
+tree-dim-tree-dim-requires t c κs = let P = c .before .before .before .before .before .before .before .before .before .before .before .before .pre in let a = P .1 .4 in let h = ap foundAt (sym (c .before .before .before .before .before .e .given .1)) ∙ c .before .before .before .before .before .before .before .lead .ensures in (omega (arith, P .0, root-less a (c .before .before .before .before .before .before .before .before .before .count-at .ensures) (c .before .before .before .before .before .before .before .before .if1 .taken) h (c .before .root .ensures)), (P .1 .0, P .1 .1, P .1 .2, P .1 .3, root-asks a (c .before .before .before .before .before .before .before .before .before .count-at .ensures) (c .before .before .before .before .before .before .before .before .if1 .taken) h (c .before .root .ensures)))
 
 tree-dim-cast-known : (t : ℕ) → tree-dim-lts.Need-cast-known (tree-dim-claims t) (tree-dim-at t) tree-dim.Post
 tree-dim-cast-known t c = search needs
@@ -89,43 +89,43 @@ tree-dim-element-write-known : (t : ℕ) → tree-dim-lts.Need-element-write-kno
 tree-dim-element-write-known t c = exp-room (c .before .before .before .before .before .before .before .before .before .before .before .before .before .pre .1 .4) (c .before .before .before .before .before .before .before .before .before .before .count-at .ensures) (c .before .before .before .before .before .before .before .before .before .if1 .taken) (ap foundAt (sym (c .before .before .before .before .before .before .e .given .1)) ∙ c .before .before .before .before .before .before .before .before .lead .ensures)
 
 tree-dim-returns-3 : (t : ℕ) → tree-dim-lts.Need-returns-3 (tree-dim-claims t) (tree-dim-at t) tree-dim.Post
-tree-dim-returns-3 t c = λ l n m rank a. root-gives a (c .before .before .before .before .before .before .before .before .before .before .count-at .ensures) (c .before .before .before .before .before .before .before .before .before .if1 .taken) (ap foundAt (sym (c .before .before .before .before .before .before .e .given .1)) ∙ c .before .before .before .before .before .before .before .before .lead .ensures) (c .before .root .ensures) (omega (arith, c .tree-dim .ok)) (c .tree-dim .ensures l n m rank (root-asks a (c .before .before .before .before .before .before .before .before .before .before .count-at .ensures) (c .before .before .before .before .before .before .before .before .before .if1 .taken) (ap foundAt (sym (c .before .before .before .before .before .before .e .given .1)) ∙ c .before .before .before .before .before .before .before .before .lead .ensures) (c .before .root .ensures)))
+tree-dim-returns-3 t c = λ l n m rank a. root-gives a (c .before .before .before .before .before .before .before .before .before .before .count-at .ensures) (c .before .before .before .before .before .before .before .before .before .if1 .taken) (ap foundAt (sym (c .before .before .before .before .before .before .e .given .1)) ∙ c .before .before .before .before .before .before .before .before .lead .ensures) (c .before .before .root .ensures) (omega (arith, c .tree-dim .ok)) (c .tree-dim .ensures l n m rank (root-asks a (c .before .before .before .before .before .before .before .before .before .before .count-at .ensures) (c .before .before .before .before .before .before .before .before .before .if1 .taken) (ap foundAt (sym (c .before .before .before .before .before .before .e .given .1)) ∙ c .before .before .before .before .before .before .before .before .lead .ensures) (c .before .before .root .ensures)))
 
 tree-dim-child-requires : (t : ℕ) → tree-dim-lts.Need-child-requires (tree-dim-claims t) (tree-dim-at t) tree-dim.Post
-tree-dim-child-requires t c κs = room (c .before .before .before .before .before .pre .1 .4)
+tree-dim-child-requires t c κs = room (c .before .before .before .before .pre .1 .4)
 
 tree-dim-tree-dim-requires-2 : (t : ℕ) → tree-dim-lts.Need-tree-dim-requires-2 (tree-dim-claims t) (tree-dim-at t) tree-dim.Post
-tree-dim-tree-dim-requires-2 t c κs = let P = c .before .before .before .before .before .before .pre in let a = P .1 .4 in (omega (arith, P .0, less0 a (c .before .before .before .count-at .ensures) (c .before .before .if1 .left) (c .child .ensures)), (P .1 .0, P .1 .1, P .1 .2, P .1 .3, asks0 a (c .before .before .before .count-at .ensures) (c .before .before .if1 .left) (c .child .ensures)))
+tree-dim-tree-dim-requires-2 t c κs = let P = c .before .before .before .before .before .before .pre in let a = P .1 .4 in (omega (arith, P .0, less0 a (c .before .before .before .count-at .ensures) (c .before .before .if1 .left) (c .before .child .ensures)), (P .1 .0, P .1 .1, P .1 .2, P .1 .3, asks0 a (c .before .before .before .count-at .ensures) (c .before .before .if1 .left) (c .before .child .ensures)))
 
 tree-dim-larger-requires : (t : ℕ) → tree-dim-lts.Need-larger-requires (tree-dim-claims t) (tree-dim-at t) tree-dim.Post
 tree-dim-larger-requires t c κs = search needs
 
 tree-dim-returns-4 : (t : ℕ) → tree-dim-lts.Need-returns-4 (tree-dim-claims t) (tree-dim-at t) tree-dim.Post
-tree-dim-returns-4 t c = λ l n m rank a. one-gives a (c .before .before .before .before .before .before .count-at .ensures) (c .before .before .before .before .before .if1 .left) (c .before .before .before .child .ensures) (c .before .before .tree-dim2 .ensures l n m rank (asks0 a (c .before .before .before .before .before .before .count-at .ensures) (c .before .before .before .before .before .if1 .left) (c .before .before .before .child .ensures))) (c .before .larger .ensures) (c .if3 .taken)
+tree-dim-returns-4 t c = λ l n m rank a. one-gives a (c .before .before .before .before .before .before .count-at .ensures) (c .before .before .before .before .before .if1 .left) (c .before .before .before .before .child .ensures) (c .before .before .tree-dim2 .ensures l n m rank (asks0 a (c .before .before .before .before .before .before .count-at .ensures) (c .before .before .before .before .before .if1 .left) (c .before .before .before .before .child .ensures))) (c .before .larger .ensures) (c .if3 .taken)
 
 tree-dim-child-requires-2 : (t : ℕ) → tree-dim-lts.Need-child-requires-2 (tree-dim-claims t) (tree-dim-at t) tree-dim.Post
-tree-dim-child-requires-2 t c κs = room (c .before .before .before .before .before .before .before .before .before .before .pre .1 .4)
+tree-dim-child-requires-2 t c κs = room (c .before .before .before .before .before .before .before .before .before .pre .1 .4)
 
 tree-dim-tree-dim-requires-3 : (t : ℕ) → tree-dim-lts.Need-tree-dim-requires-3 (tree-dim-claims t) (tree-dim-at t) tree-dim.Post
-tree-dim-tree-dim-requires-3 t c κs = let P = c .before .before .before .before .before .before .before .before .before .before .before .pre in let a = P .1 .4 in (omega (arith, P .0, less1 a (c .before .before .before .before .before .before .before .before .count-at .ensures) (c .before .before .before .before .before .before .before .if1 .left) (c .before .before .before .before .before .child .ensures) (c .before .before .before .before .tree-dim2 .ensures (P .1 .0) (P .1 .1) (P .1 .2) (P .1 .3) (asks0 a (c .before .before .before .before .before .before .before .before .count-at .ensures) (c .before .before .before .before .before .before .before .if1 .left) (c .before .before .before .before .before .child .ensures))) (c .before .before .before .larger .ensures) (c .before .before .if3 .left) (c .child2 .ensures)), (P .1 .0, P .1 .1, P .1 .2, P .1 .3, asks1 a (c .before .before .before .before .before .before .before .before .count-at .ensures) (c .before .before .before .before .before .before .before .if1 .left) (c .before .before .before .before .before .child .ensures) (c .before .before .before .before .tree-dim2 .ensures (P .1 .0) (P .1 .1) (P .1 .2) (P .1 .3) (asks0 a (c .before .before .before .before .before .before .before .before .count-at .ensures) (c .before .before .before .before .before .before .before .if1 .left) (c .before .before .before .before .before .child .ensures))) (c .before .before .before .larger .ensures) (c .before .before .if3 .left) (c .child2 .ensures)))
+tree-dim-tree-dim-requires-3 t c κs = let P = c .before .before .before .before .before .before .before .before .before .before .before .pre in let a = P .1 .4 in (omega (arith, P .0, less1 a (c .before .before .before .before .before .before .before .before .count-at .ensures) (c .before .before .before .before .before .before .before .if1 .left) (c .before .before .before .before .before .before .child .ensures) (c .before .before .before .before .tree-dim2 .ensures (P .1 .0) (P .1 .1) (P .1 .2) (P .1 .3) (asks0 a (c .before .before .before .before .before .before .before .before .count-at .ensures) (c .before .before .before .before .before .before .before .if1 .left) (c .before .before .before .before .before .before .child .ensures))) (c .before .before .before .larger .ensures) (c .before .before .if3 .left) (c .before .child2 .ensures)), (P .1 .0, P .1 .1, P .1 .2, P .1 .3, asks1 a (c .before .before .before .before .before .before .before .before .count-at .ensures) (c .before .before .before .before .before .before .before .if1 .left) (c .before .before .before .before .before .before .child .ensures) (c .before .before .before .before .tree-dim2 .ensures (P .1 .0) (P .1 .1) (P .1 .2) (P .1 .3) (asks0 a (c .before .before .before .before .before .before .before .before .count-at .ensures) (c .before .before .before .before .before .before .before .if1 .left) (c .before .before .before .before .before .before .child .ensures))) (c .before .before .before .larger .ensures) (c .before .before .if3 .left) (c .before .child2 .ensures)))
 
 tree-dim-larger-requires-2 : (t : ℕ) → tree-dim-lts.Need-larger-requires-2 (tree-dim-claims t) (tree-dim-at t) tree-dim.Post
 tree-dim-larger-requires-2 t c κs = search needs
 
 tree-dim-returns-5 : (t : ℕ) → tree-dim-lts.Need-returns-5 (tree-dim-claims t) (tree-dim-at t) tree-dim.Post
-tree-dim-returns-5 t c = λ l n m rank a. two-gives a (c .before .before .before .before .before .before .before .before .before .before .before .count-at .ensures) (c .before .before .before .before .before .before .before .before .before .before .if1 .left) (c .before .before .before .before .before .before .before .before .child .ensures) (c .before .before .before .before .before .before .before .tree-dim2 .ensures l n m rank (asks0 a (c .before .before .before .before .before .before .before .before .before .before .before .count-at .ensures) (c .before .before .before .before .before .before .before .before .before .before .if1 .left) (c .before .before .before .before .before .before .before .before .child .ensures))) (c .before .before .before .before .before .before .larger .ensures) (c .before .before .before .before .before .if3 .left) (c .before .before .before .child2 .ensures) (c .before .before .tree-dim3 .ensures l n m rank (asks1 a (c .before .before .before .before .before .before .before .before .before .before .before .count-at .ensures) (c .before .before .before .before .before .before .before .before .before .before .if1 .left) (c .before .before .before .before .before .before .before .before .child .ensures) (c .before .before .before .before .before .before .before .tree-dim2 .ensures l n m rank (asks0 a (c .before .before .before .before .before .before .before .before .before .before .before .count-at .ensures) (c .before .before .before .before .before .before .before .before .before .before .if1 .left) (c .before .before .before .before .before .before .before .before .child .ensures))) (c .before .before .before .before .before .before .larger .ensures) (c .before .before .before .before .before .if3 .left) (c .before .before .before .child2 .ensures))) (c .before .larger2 .ensures) (c .if4 .taken)
+tree-dim-returns-5 t c = λ l n m rank a. two-gives a (c .before .before .before .before .before .before .before .before .before .before .before .count-at .ensures) (c .before .before .before .before .before .before .before .before .before .before .if1 .left) (c .before .before .before .before .before .before .before .before .before .child .ensures) (c .before .before .before .before .before .before .before .tree-dim2 .ensures l n m rank (asks0 a (c .before .before .before .before .before .before .before .before .before .before .before .count-at .ensures) (c .before .before .before .before .before .before .before .before .before .before .if1 .left) (c .before .before .before .before .before .before .before .before .before .child .ensures))) (c .before .before .before .before .before .before .larger .ensures) (c .before .before .before .before .before .if3 .left) (c .before .before .before .before .child2 .ensures) (c .before .before .tree-dim3 .ensures l n m rank (asks1 a (c .before .before .before .before .before .before .before .before .before .before .before .count-at .ensures) (c .before .before .before .before .before .before .before .before .before .before .if1 .left) (c .before .before .before .before .before .before .before .before .before .child .ensures) (c .before .before .before .before .before .before .before .tree-dim2 .ensures l n m rank (asks0 a (c .before .before .before .before .before .before .before .before .before .before .before .count-at .ensures) (c .before .before .before .before .before .before .before .before .before .before .if1 .left) (c .before .before .before .before .before .before .before .before .before .child .ensures))) (c .before .before .before .before .before .before .larger .ensures) (c .before .before .before .before .before .if3 .left) (c .before .before .before .before .child2 .ensures))) (c .before .larger2 .ensures) (c .if4 .taken)
 
 tree-dim-child-requires-3 : (t : ℕ) → tree-dim-lts.Need-child-requires-3 (tree-dim-claims t) (tree-dim-at t) tree-dim.Post
-tree-dim-child-requires-3 t c κs = room (c .before .before .before .before .before .before .before .before .before .before .before .before .before .before .before .pre .1 .4)
+tree-dim-child-requires-3 t c κs = room (c .before .before .before .before .before .before .before .before .before .before .before .before .before .before .pre .1 .4)
 
 tree-dim-tree-dim-requires-4 : (t : ℕ) → tree-dim-lts.Need-tree-dim-requires-4 (tree-dim-claims t) (tree-dim-at t) tree-dim.Post
-tree-dim-tree-dim-requires-4 t c κs = let P = c .before .before .before .before .before .before .before .before .before .before .before .before .before .before .before .before .pre in let a = P .1 .4 in (omega (arith, P .0, less2 a (c .before .before .before .before .before .before .before .before .before .before .before .before .before .count-at .ensures) (c .before .before .before .before .before .before .before .before .before .before .before .before .if1 .left) (c .before .before .before .before .before .before .before .before .before .before .child .ensures) (c .before .before .before .before .before .before .before .before .before .tree-dim2 .ensures (P .1 .0) (P .1 .1) (P .1 .2) (P .1 .3) (asks0 a (c .before .before .before .before .before .before .before .before .before .before .before .before .before .count-at .ensures) (c .before .before .before .before .before .before .before .before .before .before .before .before .if1 .left) (c .before .before .before .before .before .before .before .before .before .before .child .ensures))) (c .before .before .before .before .before .before .before .before .larger .ensures) (c .before .before .before .before .before .before .before .if3 .left) (c .before .before .before .before .before .child2 .ensures) (c .before .before .before .before .tree-dim3 .ensures (P .1 .0) (P .1 .1) (P .1 .2) (P .1 .3) (asks1 a (c .before .before .before .before .before .before .before .before .before .before .before .before .before .count-at .ensures) (c .before .before .before .before .before .before .before .before .before .before .before .before .if1 .left) (c .before .before .before .before .before .before .before .before .before .before .child .ensures) (c .before .before .before .before .before .before .before .before .before .tree-dim2 .ensures (P .1 .0) (P .1 .1) (P .1 .2) (P .1 .3) (asks0 a (c .before .before .before .before .before .before .before .before .before .before .before .before .before .count-at .ensures) (c .before .before .before .before .before .before .before .before .before .before .before .before .if1 .left) (c .before .before .before .before .before .before .before .before .before .before .child .ensures))) (c .before .before .before .before .before .before .before .before .larger .ensures) (c .before .before .before .before .before .before .before .if3 .left) (c .before .before .before .before .before .child2 .ensures))) (c .before .before .before .larger2 .ensures) (c .before .before .if4 .left) (c .child3 .ensures)), (P .1 .0, P .1 .1, P .1 .2, P .1 .3, asks2 a (c .before .before .before .before .before .before .before .before .before .before .before .before .before .count-at .ensures) (c .before .before .before .before .before .before .before .before .before .before .before .before .if1 .left) (c .before .before .before .before .before .before .before .before .before .before .child .ensures) (c .before .before .before .before .before .before .before .before .before .tree-dim2 .ensures (P .1 .0) (P .1 .1) (P .1 .2) (P .1 .3) (asks0 a (c .before .before .before .before .before .before .before .before .before .before .before .before .before .count-at .ensures) (c .before .before .before .before .before .before .before .before .before .before .before .before .if1 .left) (c .before .before .before .before .before .before .before .before .before .before .child .ensures))) (c .before .before .before .before .before .before .before .before .larger .ensures) (c .before .before .before .before .before .before .before .if3 .left) (c .before .before .before .before .before .child2 .ensures) (c .before .before .before .before .tree-dim3 .ensures (P .1 .0) (P .1 .1) (P .1 .2) (P .1 .3) (asks1 a (c .before .before .before .before .before .before .before .before .before .before .before .before .before .count-at .ensures) (c .before .before .before .before .before .before .before .before .before .before .before .before .if1 .left) (c .before .before .before .before .before .before .before .before .before .before .child .ensures) (c .before .before .before .before .before .before .before .before .before .tree-dim2 .ensures (P .1 .0) (P .1 .1) (P .1 .2) (P .1 .3) (asks0 a (c .before .before .before .before .before .before .before .before .before .before .before .before .before .count-at .ensures) (c .before .before .before .before .before .before .before .before .before .before .before .before .if1 .left) (c .before .before .before .before .before .before .before .before .before .before .child .ensures))) (c .before .before .before .before .before .before .before .before .larger .ensures) (c .before .before .before .before .before .before .before .if3 .left) (c .before .before .before .before .before .child2 .ensures))) (c .before .before .before .larger2 .ensures) (c .before .before .if4 .left) (c .child3 .ensures)))
+tree-dim-tree-dim-requires-4 t c κs = let P = c .before .before .before .before .before .before .before .before .before .before .before .before .before .before .before .before .pre in let a = P .1 .4 in (omega (arith, P .0, less2 a (c .before .before .before .before .before .before .before .before .before .before .before .before .before .count-at .ensures) (c .before .before .before .before .before .before .before .before .before .before .before .before .if1 .left) (c .before .before .before .before .before .before .before .before .before .before .before .child .ensures) (c .before .before .before .before .before .before .before .before .before .tree-dim2 .ensures (P .1 .0) (P .1 .1) (P .1 .2) (P .1 .3) (asks0 a (c .before .before .before .before .before .before .before .before .before .before .before .before .before .count-at .ensures) (c .before .before .before .before .before .before .before .before .before .before .before .before .if1 .left) (c .before .before .before .before .before .before .before .before .before .before .before .child .ensures))) (c .before .before .before .before .before .before .before .before .larger .ensures) (c .before .before .before .before .before .before .before .if3 .left) (c .before .before .before .before .before .before .child2 .ensures) (c .before .before .before .before .tree-dim3 .ensures (P .1 .0) (P .1 .1) (P .1 .2) (P .1 .3) (asks1 a (c .before .before .before .before .before .before .before .before .before .before .before .before .before .count-at .ensures) (c .before .before .before .before .before .before .before .before .before .before .before .before .if1 .left) (c .before .before .before .before .before .before .before .before .before .before .before .child .ensures) (c .before .before .before .before .before .before .before .before .before .tree-dim2 .ensures (P .1 .0) (P .1 .1) (P .1 .2) (P .1 .3) (asks0 a (c .before .before .before .before .before .before .before .before .before .before .before .before .before .count-at .ensures) (c .before .before .before .before .before .before .before .before .before .before .before .before .if1 .left) (c .before .before .before .before .before .before .before .before .before .before .before .child .ensures))) (c .before .before .before .before .before .before .before .before .larger .ensures) (c .before .before .before .before .before .before .before .if3 .left) (c .before .before .before .before .before .before .child2 .ensures))) (c .before .before .before .larger2 .ensures) (c .before .before .if4 .left) (c .before .child3 .ensures)), (P .1 .0, P .1 .1, P .1 .2, P .1 .3, asks2 a (c .before .before .before .before .before .before .before .before .before .before .before .before .before .count-at .ensures) (c .before .before .before .before .before .before .before .before .before .before .before .before .if1 .left) (c .before .before .before .before .before .before .before .before .before .before .before .child .ensures) (c .before .before .before .before .before .before .before .before .before .tree-dim2 .ensures (P .1 .0) (P .1 .1) (P .1 .2) (P .1 .3) (asks0 a (c .before .before .before .before .before .before .before .before .before .before .before .before .before .count-at .ensures) (c .before .before .before .before .before .before .before .before .before .before .before .before .if1 .left) (c .before .before .before .before .before .before .before .before .before .before .before .child .ensures))) (c .before .before .before .before .before .before .before .before .larger .ensures) (c .before .before .before .before .before .before .before .if3 .left) (c .before .before .before .before .before .before .child2 .ensures) (c .before .before .before .before .tree-dim3 .ensures (P .1 .0) (P .1 .1) (P .1 .2) (P .1 .3) (asks1 a (c .before .before .before .before .before .before .before .before .before .before .before .before .before .count-at .ensures) (c .before .before .before .before .before .before .before .before .before .before .before .before .if1 .left) (c .before .before .before .before .before .before .before .before .before .before .before .child .ensures) (c .before .before .before .before .before .before .before .before .before .tree-dim2 .ensures (P .1 .0) (P .1 .1) (P .1 .2) (P .1 .3) (asks0 a (c .before .before .before .before .before .before .before .before .before .before .before .before .before .count-at .ensures) (c .before .before .before .before .before .before .before .before .before .before .before .before .if1 .left) (c .before .before .before .before .before .before .before .before .before .before .before .child .ensures))) (c .before .before .before .before .before .before .before .before .larger .ensures) (c .before .before .before .before .before .before .before .if3 .left) (c .before .before .before .before .before .before .child2 .ensures))) (c .before .before .before .larger2 .ensures) (c .before .before .if4 .left) (c .before .child3 .ensures)))
 
 tree-dim-larger-requires-3 : (t : ℕ) → tree-dim-lts.Need-larger-requires-3 (tree-dim-claims t) (tree-dim-at t) tree-dim.Post
 tree-dim-larger-requires-3 t c κs = search needs
 
 tree-dim-returns-6 : (t : ℕ) → tree-dim-lts.Need-returns-6 (tree-dim-claims t) (tree-dim-at t) tree-dim.Post
-tree-dim-returns-6 t c = λ l n m rank a. three-gives a (c .before .before .before .before .before .before .before .before .before .before .before .before .before .before .before .count-at .ensures) (c .before .before .before .before .before .before .before .before .before .before .before .before .before .before .if1 .left) (c .before .before .before .before .before .before .before .before .before .before .before .before .child .ensures) (c .before .before .before .before .before .before .before .before .before .before .before .tree-dim2 .ensures l n m rank (asks0 a (c .before .before .before .before .before .before .before .before .before .before .before .before .before .before .before .count-at .ensures) (c .before .before .before .before .before .before .before .before .before .before .before .before .before .before .if1 .left) (c .before .before .before .before .before .before .before .before .before .before .before .before .child .ensures))) (c .before .before .before .before .before .before .before .before .before .before .larger .ensures) (c .before .before .before .before .before .before .before .before .before .if3 .left) (c .before .before .before .before .before .before .before .child2 .ensures) (c .before .before .before .before .before .before .tree-dim3 .ensures l n m rank (asks1 a (c .before .before .before .before .before .before .before .before .before .before .before .before .before .before .before .count-at .ensures) (c .before .before .before .before .before .before .before .before .before .before .before .before .before .before .if1 .left) (c .before .before .before .before .before .before .before .before .before .before .before .before .child .ensures) (c .before .before .before .before .before .before .before .before .before .before .before .tree-dim2 .ensures l n m rank (asks0 a (c .before .before .before .before .before .before .before .before .before .before .before .before .before .before .before .count-at .ensures) (c .before .before .before .before .before .before .before .before .before .before .before .before .before .before .if1 .left) (c .before .before .before .before .before .before .before .before .before .before .before .before .child .ensures))) (c .before .before .before .before .before .before .before .before .before .before .larger .ensures) (c .before .before .before .before .before .before .before .before .before .if3 .left) (c .before .before .before .before .before .before .before .child2 .ensures))) (c .before .before .before .before .before .larger2 .ensures) (c .before .before .before .before .if4 .left) (c .before .before .child3 .ensures) (c .before .tree-dim4 .ensures l n m rank (asks2 a (c .before .before .before .before .before .before .before .before .before .before .before .before .before .before .before .count-at .ensures) (c .before .before .before .before .before .before .before .before .before .before .before .before .before .before .if1 .left) (c .before .before .before .before .before .before .before .before .before .before .before .before .child .ensures) (c .before .before .before .before .before .before .before .before .before .before .before .tree-dim2 .ensures l n m rank (asks0 a (c .before .before .before .before .before .before .before .before .before .before .before .before .before .before .before .count-at .ensures) (c .before .before .before .before .before .before .before .before .before .before .before .before .before .before .if1 .left) (c .before .before .before .before .before .before .before .before .before .before .before .before .child .ensures))) (c .before .before .before .before .before .before .before .before .before .before .larger .ensures) (c .before .before .before .before .before .before .before .before .before .if3 .left) (c .before .before .before .before .before .before .before .child2 .ensures) (c .before .before .before .before .before .before .tree-dim3 .ensures l n m rank (asks1 a (c .before .before .before .before .before .before .before .before .before .before .before .before .before .before .before .count-at .ensures) (c .before .before .before .before .before .before .before .before .before .before .before .before .before .before .if1 .left) (c .before .before .before .before .before .before .before .before .before .before .before .before .child .ensures) (c .before .before .before .before .before .before .before .before .before .before .before .tree-dim2 .ensures l n m rank (asks0 a (c .before .before .before .before .before .before .before .before .before .before .before .before .before .before .before .count-at .ensures) (c .before .before .before .before .before .before .before .before .before .before .before .before .before .before .if1 .left) (c .before .before .before .before .before .before .before .before .before .before .before .before .child .ensures))) (c .before .before .before .before .before .before .before .before .before .before .larger .ensures) (c .before .before .before .before .before .before .before .before .before .if3 .left) (c .before .before .before .before .before .before .before .child2 .ensures))) (c .before .before .before .before .before .larger2 .ensures) (c .before .before .before .before .if4 .left) (c .before .before .child3 .ensures))) (c .larger3 .ensures)
+tree-dim-returns-6 t c = λ l n m rank a. three-gives a (c .before .before .before .before .before .before .before .before .before .before .before .before .before .before .before .count-at .ensures) (c .before .before .before .before .before .before .before .before .before .before .before .before .before .before .if1 .left) (c .before .before .before .before .before .before .before .before .before .before .before .before .before .child .ensures) (c .before .before .before .before .before .before .before .before .before .before .before .tree-dim2 .ensures l n m rank (asks0 a (c .before .before .before .before .before .before .before .before .before .before .before .before .before .before .before .count-at .ensures) (c .before .before .before .before .before .before .before .before .before .before .before .before .before .before .if1 .left) (c .before .before .before .before .before .before .before .before .before .before .before .before .before .child .ensures))) (c .before .before .before .before .before .before .before .before .before .before .larger .ensures) (c .before .before .before .before .before .before .before .before .before .if3 .left) (c .before .before .before .before .before .before .before .before .child2 .ensures) (c .before .before .before .before .before .before .tree-dim3 .ensures l n m rank (asks1 a (c .before .before .before .before .before .before .before .before .before .before .before .before .before .before .before .count-at .ensures) (c .before .before .before .before .before .before .before .before .before .before .before .before .before .before .if1 .left) (c .before .before .before .before .before .before .before .before .before .before .before .before .before .child .ensures) (c .before .before .before .before .before .before .before .before .before .before .before .tree-dim2 .ensures l n m rank (asks0 a (c .before .before .before .before .before .before .before .before .before .before .before .before .before .before .before .count-at .ensures) (c .before .before .before .before .before .before .before .before .before .before .before .before .before .before .if1 .left) (c .before .before .before .before .before .before .before .before .before .before .before .before .before .child .ensures))) (c .before .before .before .before .before .before .before .before .before .before .larger .ensures) (c .before .before .before .before .before .before .before .before .before .if3 .left) (c .before .before .before .before .before .before .before .before .child2 .ensures))) (c .before .before .before .before .before .larger2 .ensures) (c .before .before .before .before .if4 .left) (c .before .before .before .child3 .ensures) (c .before .tree-dim4 .ensures l n m rank (asks2 a (c .before .before .before .before .before .before .before .before .before .before .before .before .before .before .before .count-at .ensures) (c .before .before .before .before .before .before .before .before .before .before .before .before .before .before .if1 .left) (c .before .before .before .before .before .before .before .before .before .before .before .before .before .child .ensures) (c .before .before .before .before .before .before .before .before .before .before .before .tree-dim2 .ensures l n m rank (asks0 a (c .before .before .before .before .before .before .before .before .before .before .before .before .before .before .before .count-at .ensures) (c .before .before .before .before .before .before .before .before .before .before .before .before .before .before .if1 .left) (c .before .before .before .before .before .before .before .before .before .before .before .before .before .child .ensures))) (c .before .before .before .before .before .before .before .before .before .before .larger .ensures) (c .before .before .before .before .before .before .before .before .before .if3 .left) (c .before .before .before .before .before .before .before .before .child2 .ensures) (c .before .before .before .before .before .before .tree-dim3 .ensures l n m rank (asks1 a (c .before .before .before .before .before .before .before .before .before .before .before .before .before .before .before .count-at .ensures) (c .before .before .before .before .before .before .before .before .before .before .before .before .before .before .if1 .left) (c .before .before .before .before .before .before .before .before .before .before .before .before .before .child .ensures) (c .before .before .before .before .before .before .before .before .before .before .before .tree-dim2 .ensures l n m rank (asks0 a (c .before .before .before .before .before .before .before .before .before .before .before .before .before .before .before .count-at .ensures) (c .before .before .before .before .before .before .before .before .before .before .before .before .before .before .if1 .left) (c .before .before .before .before .before .before .before .before .before .before .before .before .before .child .ensures))) (c .before .before .before .before .before .before .before .before .before .before .larger .ensures) (c .before .before .before .before .before .before .before .before .before .if3 .left) (c .before .before .before .before .before .before .before .before .child2 .ensures))) (c .before .before .before .before .before .larger2 .ensures) (c .before .before .before .before .if4 .left) (c .before .before .before .child3 .ensures))) (c .larger3 .ensures)
 
 pub +tree-dim-spec : {M : Type 1} → statement M
 +tree-dim-spec = close μ-tree-dim λ t. tree-dim-lts.spec (tree-dim-claims t)
@@ -142,8 +142,8 @@ pub +tree-dim-spec : {M : Type 1} → statement M
     (tree-dim-sub-result t)
     (tree-dim-cast-result t)
     (tree-dim-returns-2 t)
-    (tree-dim-sub-tree-dim t)
     (tree-dim-root-requires t)
+    (tree-dim-sub-tree-dim t)
     (tree-dim-tree-dim-requires t)
     (tree-dim-cast-known t)
     (tree-dim-add-known t)
