@@ -1,0 +1,166 @@
+#!/usr/bin/env python3
+"""Write crates/replay_plans/specs/Vectors/*.antt from vectors/plans.txt.
+
+usage: tools/plans_to_antt.py [--check]      (from the repository's top folder)
+
+--check writes nothing and fails where a file is not what it would be.
+
+Each family of vectors that ask `map` becomes a module with a table and one statement, proved by computation: the definitions of
+the crates `plans`, `exp_dims` and `map_records` give the original's records, cm_dims and q_dim, and the document's refusals. So do
+those that ask `exp_dims`, and those that ask `sections`, with the definitions of the crate `sections`.
+Left out are plans that form a cycle (4), which no test of the definitions tells, and records of a section that there is not, which
+are refused (1) where the original leaves them alone.
+"""
+import os
+import sys
+
+SOURCE = "vectors/plans.txt"
+TARGET = "crates/replay_plans/specs/Vectors"
+# each family's module
+FAMILIES = {"m": "Surprises", "edge": "Edges", "order": "Orders", "shape": "Shapes", "random": "Random"}
+CYCLE = ["refused 4"]
+USES = """-- Assumes nothing.
+use mathlib.Core.Path.{_≡_, refl}
+use mathlib.Core.Bool.{true}
+use mathlib.Core.List.{List, [], _∷_}
+use Rattle.frames.specs.Tables.{first}
+use Rattle.kinds.specs.BigEndian.{u16At}
+use Rattle.kinds.specs.Kinds.{childCount}
+use Rattle.kinds.specs.Range.{within}
+use Rattle.pool.specs.Trees.{tree}
+use Rattle.pool.specs.Admission.{shape}
+use Rattle.exp_dims.specs.Dimension.{expDim}
+use Rattle.plans.specs.Plan.{numberAt, isPlan}
+use Rattle.plans.specs.Columns as plan
+use Rattle.plans.specs.Columns.{among, isIm, adding, fits}
+use Rattle.plans.specs.Agreement.{namesThere, bitsGood, countsAgree}
+use Rattle.map_records.specs.Mapping.{column, cm1s, lookups, products, intermediates, qDim, quotients, mapped, someNone}
+use Rattle.replay_plans.specs.Replay.{Vector, vector, node, root, agree}
+"""
+UNFOLDING = (
+    "first u16At childCount within tree shape expDim numberAt isPlan plan.lookups plan.products among isIm adding fits namesThere "
+    "bitsGood countsAgree column cm1s lookups products intermediates qDim quotients mapped someNone vectors"
+)
+DIMENSIONS = "Dimensions"
+SECTIONS = "Sections"
+SECTION_COUNT = 11
+SECTION_USES = """-- Assumes nothing.
+use mathlib.Core.Path.{_≡_, refl}
+use mathlib.Core.Bool.{true}
+use mathlib.Core.List.{List, [], _∷_}
+use Rattle.kinds.specs.Range.{within}
+use Rattle.sections.specs.Sections.{placed, positionOf, firstWidth, wholeWidth, thirdWidth}
+use Rattle.replay_plans.specs.Replay.{Placing, placing, agreePlaced}
+"""
+SECTION_UNFOLDING = "within placed positionOf firstWidth wholeWidth thirdWidth vectors"
+HEAD = ["pu", "pe", "ci", "im", "qs", "q2exp"]
+
+
+def read_vectors(path):
+    for block in open(path, encoding="ascii").read().split("\nvector ")[1:]:
+        lines = [line.strip() for line in block.splitlines() if line.strip() and not line.startswith("#")]
+        name, lines = lines[0], lines[1 : lines.index("end")]
+        middle = lines.index("answers")
+        yield name, lines[:middle], lines[middle + 1 :]
+
+
+def numbers(words):
+    return [int(word) for word in words]
+
+
+def plan_bytes(lines):
+    """The record of a plan, as the header of vectors/plans.txt says."""
+    parts = {key: [] for key in HEAD}
+    for line in lines:
+        word, *rest = line.split()
+        if word == "plan":
+            return list(bytes.fromhex(rest[0])) if rest else []
+        if word == "bits":
+            bits = numbers(rest)
+        elif word in ("columns", "quotient"):
+            parts.setdefault("head", []).extend(numbers(rest))
+        elif word in ("qs", "q2exp"):
+            parts[word] = [[number] for number in numbers(rest)]
+        elif word in HEAD:
+            parts[word].append(numbers(rest))
+    flat = parts["head"] + [len(parts[key]) for key in HEAD] + [n for key in HEAD for entry in parts[key] for n in entry]
+    return bits + [byte for n in flat for byte in (n // 256, n % 256)]
+
+
+def node(frame):
+    kind, ident, count = frame[1], int.from_bytes(frame[3:5], "big"), frame[5]
+    children = [int.from_bytes(frame[6 + 2 * k : 8 + 2 * k], "big") for k in range(min(count, 3))] + [0, 0, 0]
+    return f"node {kind} {ident} {count} {children[0]} {children[1]} {children[2]}"
+
+
+def listed(items):
+    return "(" + "".join(f"{item} ∷ " for item in items) + "[])"
+
+
+def expected(answers):
+    """The original's answer as `answer` of Replay.antt gives it."""
+    if answers[0].startswith("refused"):
+        return [int(answers[0].split()[1])]
+    said = {line.split()[0]: [word for word in line.split()[1:] if word != "-"] for line in answers}
+    records = [record.split(":") for record in said["records"]]
+    columns = [entry.split(":")[0] for entry in said["tmpexp"]]
+    rows = [[r[0] for r in records], [r[1] for r in records], columns, said["cm_dims"]]
+    return [0] + [int(n) for row in rows for n in [len(row)] + row] + [int(said["q_dim"][0])]
+
+
+def vector(name, question, wanted):
+    frames = [bytes.fromhex(line) for line in question if line[0] == "0" and " " not in line]
+    nodes = listed(node(frame) for frame in frames if frame[0] == 1)
+    roots = listed(f"root {int.from_bytes(frame[1:3], 'big')}" for frame in frames if frame[0] == 2)
+    plan = plan_bytes([line for line in question if not (line[0] == "0" and " " not in line)])
+    return f"    -- {name}\n    vector\n    {nodes}\n    {roots}\n    {listed(plan)}\n    {listed(wanted)} ∷\n"
+
+
+def placing(name, question, answers):
+    records = [line.split()[1:] for line in question if line.startswith("record")]
+    columns = [listed(record[k] for record in records) for k in range(3)]
+    wanted = [word for line in answers for word in line.split()[1:] if word != "-"]
+    return f"    -- {name}\n    placing {columns[0]} {columns[1]} {columns[2]}\n    {listed(wanted)} ∷\n"
+
+
+def module(title, uses, kind, vectors, agree, unfolding):
+    text = f"-- The {len(vectors)} vectors {title}, made by tools/plans_to_antt.py.\n{uses}\n"
+    text += f"unfoldable pub vectors : List {kind}\nvectors =\n" + "".join(vectors) + "    []\n\n"
+    return text + f"-- THE DEFINITIONS GIVE THE ORIGINAL'S ANSWERS\npub all-agree : {agree} vectors ≡ true\nunfolding {unfolding}\nall-agree = refl\n"
+
+
+def modules():
+    families = {key: [] for key in FAMILIES}
+    dims, sections = [], []
+    for name, question, answers in read_vectors(SOURCE):
+        asked = next(line for line in question if line.startswith("ask "))
+        rest = [line for line in question if line != asked]
+        if asked == "ask map" and answers != CYCLE:
+            key = next(k for k in sorted(FAMILIES, key=len, reverse=True) if name.startswith(k))
+            families[key].append(vector(name, rest, expected(answers)))
+        elif asked == "ask exp_dims" and not answers[0].startswith("refused"):
+            dims.append(vector(name, rest, answers[0].split()[1:]))
+        elif asked == "ask sections" and all(int(line.split()[1]) < SECTION_COUNT for line in rest):
+            sections.append(placing(name, rest, answers))
+    for key, vectors in families.items():
+        yield FAMILIES[key], module(f"of the family {key}", USES, "Vector", vectors, "agree", UNFOLDING)
+    yield DIMENSIONS, module("that ask for the dimensions of expressions", USES.replace("agree}", "agreeDims}"), "Vector", dims, "agreeDims", UNFOLDING)
+    yield SECTIONS, module("that ask for sections", SECTION_USES, "Placing", sections, "agreePlaced", SECTION_UNFOLDING)
+
+
+def main():
+    check = sys.argv[1:] == ["--check"]
+    wrong = []
+    for name, text in modules():
+        path = os.path.join(TARGET, name + ".antt")
+        if not check:
+            open(path, "w", encoding="utf-8").write(text)
+        elif not os.path.exists(path) or open(path, encoding="utf-8").read() != text:
+            wrong.append(path)
+    for path in wrong:
+        print(f"{path} is not what {SOURCE} gives")
+    sys.exit(1 if wrong else 0)
+
+
+if __name__ == "__main__":
+    main()
