@@ -7,9 +7,11 @@ usage: tools/plans_to_antt.py [--check]      (from the repository's top folder)
 
 Each family of vectors that ask `map` becomes a module with a table and one statement, proved by computation: the definitions of
 the crates `plans`, `exp_dims` and `map_records` give the original's records, cm_dims and q_dim, and the document's refusals. So do
-those that ask `exp_dims`, and those that ask `sections`, with the definitions of the crate `sections`.
-Left out are plans that form a cycle (4), which no test of the definitions tells, and records of a section that there is not, which
-are refused (1) where the original leaves them alone.
+those that ask `exp_dims`, those that ask `sections`, with the definitions of the crate `sections`, and those that ask for a walk over a
+segment, with those of `fixing`, `query_fixing` and `dimensions`.
+Left out are plans that form a cycle (4), which no test of the definitions tells; records of a section that there is not, which are
+refused (1) where the original leaves them alone; and steps with too few sources whose others are refused too, since the dimension
+pass refuses such a step (10) before it looks at them (docs/DIFFERENCES.md).
 """
 import os
 import sys
@@ -44,6 +46,24 @@ UNFOLDING = (
 DIMENSIONS = "Dimensions"
 SECTIONS = "Sections"
 SECTION_COUNT = 11
+# each walk that is asked for: its constructor, and the module of its vectors
+WALKS = {
+    "fix n": ("fixN", "Fixing"),
+    "fix 2ns": ("fix2ns", "Fixing"),
+    "query": ("query", "Queries"),
+    "dims": ("dims", "Passes"),
+    "dims_first": ("dimsFirst", "Passes"),
+    "fix_dims n": ("fixDimsN", "FixedPasses"),
+    "fix_dims 2ns": ("fixDims2ns", "FixedPasses"),
+    "query_dims": ("queryDims", "FixedPasses"),
+}
+KINDS = {
+    "cm": 0x10, "const": 0x11, "exp": 0x12, "q": 0x13, "number": 0x14, "public": 0x15, "challenge": 0x16, "eval": 0x17, "xDivXSubXi": 0x18,
+    "xDivXSubWXi": 0x19, "x": 0x1A, "tmp": 0x20, "f": 0x21, "tmpExp": 0x22, "Zi": 0x23, "tree1": 0x24, "tree2": 0x25, "tree3": 0x26, "tree4": 0x27,
+    "Z": 0x28,
+}  # fmt: skip
+NEEDED = {"add": 2, "sub": 2, "mul": 2, "muladd": 3, "copy": 1}
+STEPS = {"add": 1, "sub": 2, "mul": 3, "muladd": 4, "copy": 8}
 SECTION_USES = """-- Assumes nothing.
 use mathlib.Core.Path.{_≡_, refl}
 use mathlib.Core.Bool.{true}
@@ -53,6 +73,25 @@ use Rattle.sections.specs.Sections.{placed, positionOf, firstWidth, wholeWidth,
 use Rattle.replay_plans.specs.Replay.{Placing, placing, agreePlaced}
 """
 SECTION_UNFOLDING = "within placed positionOf firstWidth wholeWidth thirdWidth vectors"
+WALK_USES = USES.replace("use Rattle.replay_plans.specs.Replay.{Vector, vector, node, root, agree}\n", """use Rattle.kinds.specs.Kinds.{isReference, isLeaf}
+use Rattle.kinds.specs.StepOps.{isStep, sourcesNeeded}
+use Rattle.sections.specs.Sections.{placed, positionOf}
+use Rattle.lent_lists.specs.Records as lists
+use Rattle.lent_lists.specs.Records.{runs, usedBy, recordBy}
+use Rattle.lent_lists.specs.Walks.{walked, usedVerdict, recordVerdict}
+use Rattle.fixing.specs.ProverCode.{ruleKind, ruleId, ruleDim, ruleFor, ruledReference, meetReference, meetUsed, meetRecord, meetRecords, fixReference}
+use Rattle.query_fixing.specs.QueryCode.{treeFor, treeKind, treePosition, treeDim, hasTree, treedReference, treeReference}
+use Rattle.step_dimensions.specs.Rules.{ruleNo, isDestination}
+use Rattle.step_dimensions.specs.StepDimensions.{through, sourceDim, sourceDims, largest, stepWith, noted}
+use Rattle.dimensions.specs.Dimensions.{passed}
+use Rattle.replay_plans.specs.Replay.{node, root}
+use Rattle.replay_plans.specs.Walks.{WalkVector, walkVector, lists′, ref, step, blank, fixN, fix2ns, query, dims, dimsFirst, fixDimsN, fixDims2ns, queryDims, no-more, becomes, agreeWalked}
+""")
+WALK_UNFOLDING = UNFOLDING + (
+    " isReference isLeaf isStep sourcesNeeded placed positionOf runs usedBy recordBy lists.mapped walked usedVerdict recordVerdict ruleKind ruleId ruleDim "
+    "ruleFor ruledReference meetReference meetUsed meetRecord meetRecords fixReference treeFor treeKind treePosition treeDim hasTree treedReference "
+    "treeReference ruleNo isDestination through sourceDim sourceDims largest stepWith noted passed"
+)
 HEAD = ["pu", "pe", "ci", "im", "qs", "q2exp"]
 
 
@@ -123,6 +162,44 @@ def placing(name, question, answers):
     return f"    -- {name}\n    placing {columns[0]} {columns[1]} {columns[2]}\n    {listed(wanted)} ∷\n"
 
 
+def reference(text):
+    """KIND:ID, with ' where it is primed, and after @ its fields that are not 0; the literal of a number is not looked at by any walk."""
+    cell, _, fields = text.partition("@")
+    kind, _, ident = cell.partition(":")
+    primed = ident.endswith("'")
+    number = 0 if kind == "number" else int(ident.rstrip("'"))
+    said = {field[0]: field[1:] for field in fields.split(",") if field}
+    values = [said.get(key, "0") for key in "dpte"]
+    return f"(ref {KINDS[kind]} {int(primed)} {number} {' '.join(values)})"
+
+
+def step(line):
+    dest, _, right = line.partition(" = ")
+    name, *sources = right.split()
+    op = STEPS[name] if name in STEPS else int(name[4:], 16)
+    refs = [reference(source) for source in sources] + ["blank"] * (3 - len(sources))
+    return f"step {op} {len(sources)} {reference(dest)} {' '.join(refs)}"
+
+
+def segment(lines):
+    counter = next(line.split()[1] for line in lines if line.startswith("counter"))
+    lists = [listed(step(line.split(" ", 1)[1]) for line in lines if line.startswith(key + " ")) for key in ("first", "i", "last")]
+    return f"(lists′ {counter} {' '.join(lists)})"
+
+
+def too_few(line):
+    name, *sources = line.partition(" = ")[2].split()
+    return len(sources) < NEEDED.get(name, 0)
+
+
+def walk(name, question, answers, constructor):
+    asked = ("counter", "first ", "i ", "last ")
+    head = vector(name, [line for line in question if not line.startswith(asked)], []).splitlines()[2:5]
+    refused = answers[0].startswith("refused")
+    outcome = f"(no-more {answers[0].split()[1]})" if refused else f"(becomes {segment(answers)})"
+    return f"    -- {name}\n    walkVector\n" + "\n".join(head) + f"\n    {constructor}\n    {segment(question)}\n    {outcome} ∷\n"
+
+
 def module(title, uses, kind, vectors, agree, unfolding):
     text = f"-- The {len(vectors)} vectors {title}, made by tools/plans_to_antt.py.\n{uses}\n"
     text += f"unfoldable pub vectors : List {kind}\nvectors =\n" + "".join(vectors) + "    []\n\n"
@@ -132,6 +209,7 @@ def module(title, uses, kind, vectors, agree, unfolding):
 def modules():
     families = {key: [] for key in FAMILIES}
     dims, sections = [], []
+    walks = {name: [] for _, name in WALKS.values()}
     for name, question, answers in read_vectors(SOURCE):
         asked = next(line for line in question if line.startswith("ask "))
         rest = [line for line in question if line != asked]
@@ -142,9 +220,16 @@ def modules():
             dims.append(vector(name, rest, answers[0].split()[1:]))
         elif asked == "ask sections" and all(int(line.split()[1]) < SECTION_COUNT for line in rest):
             sections.append(placing(name, rest, answers))
+        elif asked[4:] in WALKS and answers != CYCLE:
+            if answers[0] in ("refused 3", "refused 12") and any(too_few(line) for line in rest if " = " in line):
+                continue
+            constructor, target = WALKS[asked[4:]]
+            walks[target].append(walk(name, rest, answers, constructor))
     for key, vectors in families.items():
         yield FAMILIES[key], module(f"of the family {key}", USES, "Vector", vectors, "agree", UNFOLDING)
     yield DIMENSIONS, module("that ask for the dimensions of expressions", USES.replace("agree}", "agreeDims}"), "Vector", dims, "agreeDims", UNFOLDING)
+    for target, vectors in walks.items():
+        yield target, module("of walks", WALK_USES, "WalkVector", vectors, "agreeWalked", WALK_UNFOLDING)
     yield SECTIONS, module("that ask for sections", SECTION_USES, "Placing", sections, "agreePlaced", SECTION_UNFOLDING)
 
 

@@ -53,13 +53,13 @@ named p b n =
     (n ∷ [])
 
 -- the order of refusals is that of a plan; a cycle (4), which no test tells, is not asked for
-abbrev answer : Pool → List ℕ → List ℕ
+abbrev pub answer : Pool → List ℕ → List ℕ
 answer p b =
     cond (isPlan b)
     (cond (fits b) (named p b (answerNo (shape p))) (number Refusal.full ∷ []))
     (number Refusal.malformed ∷ [])
 
-abbrev sameNumbers : List ℕ → List ℕ → Bool
+abbrev pub sameNumbers : List ℕ → List ℕ → Bool
 sameNumbers [] [] = true
 sameNumbers [] (b ∷ bs) = false
 sameNumbers (a ∷ as′) [] = false

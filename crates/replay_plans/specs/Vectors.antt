@@ -5,3 +5,7 @@ pub mod Shapes
 pub mod Random
 pub mod Dimensions
 pub mod Sections
+pub mod Fixing
+pub mod Queries
+pub mod Passes
+pub mod FixedPasses
