@@ -9,9 +9,8 @@ Each family of vectors that ask `map` becomes a module with a table and one stat
 the crates `plans`, `exp_dims` and `map_records` give the original's records, cm_dims and q_dim, and the document's refusals. So do
 those that ask `exp_dims`, those that ask `sections`, with the definitions of the crate `sections`, and those that ask for a walk over a
 segment, with those of `fixing`, `query_fixing` and `dimensions`.
-Left out are plans that form a cycle (4), which no test of the definitions tells; records of a section that there is not, which are
-refused (1) where the original leaves them alone; and steps with too few sources whose others are refused too, since the dimension
-pass refuses such a step (10) before it looks at them (docs/DIFFERENCES.md).
+Left out are plans that form a cycle (4), which no test of the definitions tells, and records of a section that there is not, which
+are refused (1) where the original leaves them alone.
 """
 import os
 import sys
@@ -62,7 +61,6 @@ KINDS = {
     "xDivXSubWXi": 0x19, "x": 0x1A, "tmp": 0x20, "f": 0x21, "tmpExp": 0x22, "Zi": 0x23, "tree1": 0x24, "tree2": 0x25, "tree3": 0x26, "tree4": 0x27,
     "Z": 0x28,
 }  # fmt: skip
-NEEDED = {"add": 2, "sub": 2, "mul": 2, "muladd": 3, "copy": 1}
 STEPS = {"add": 1, "sub": 2, "mul": 3, "muladd": 4, "copy": 8}
 SECTION_USES = """-- Assumes nothing.
 use mathlib.Core.Path.{_≡_, refl}
@@ -187,11 +185,6 @@ def segment(lines):
     return f"(lists′ {counter} {' '.join(lists)})"
 
 
-def too_few(line):
-    name, *sources = line.partition(" = ")[2].split()
-    return len(sources) < NEEDED.get(name, 0)
-
-
 def walk(name, question, answers, constructor):
     asked = ("counter", "first ", "i ", "last ")
     head = vector(name, [line for line in question if not line.startswith(asked)], []).splitlines()[2:5]
@@ -221,8 +214,6 @@ def modules():
         elif asked == "ask sections" and all(int(line.split()[1]) < SECTION_COUNT for line in rest):
             sections.append(placing(name, rest, answers))
         elif asked[4:] in WALKS and answers != CYCLE:
-            if answers[0] in ("refused 3", "refused 12") and any(too_few(line) for line in rest if " = " in line):
-                continue
             constructor, target = WALKS[asked[4:]]
             walks[target].append(walk(name, rest, answers, constructor))
     for key, vectors in families.items():

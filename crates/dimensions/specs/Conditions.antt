@@ -15,7 +15,7 @@ use Rattle.meaning.specs.Trees.{upTo}
 use Rattle.lists.specs.Records.{recordsIn}
 use Rattle.step_dimensions.specs.Rules as rule
 use Rattle.step_dimensions.specs.Rules.{ruleNo, isDestination}
-use Rattle.step_dimensions.specs.StepDimensions.{Given, sourceDim, sourceDims, unruled, stepWith, noted}
+use Rattle.step_dimensions.specs.StepDimensions.{Given, sourceDim, sourceDims, unruled, sourcesIn, stepWith, noted}
 
 -- the number at id, or the record of that number, is not there
 abbrev pub NotThere : List ℕ → List ℕ → ℕ → Type 0
@@ -43,8 +43,8 @@ module _ (g : Given) where
 
   pub data StepRefused (ts : List ℕ) (s : Step) : Refusal → Type 0 where
     no-step : unruled s ≡ true → StepRefused ts s Refusal.noRule
-    a-source : {w : Refusal} → unruled s ≡ false → SourcesRefused ts w (upTo (sourcesNeeded (s .op)) (s .s0 ∷ s .s1 ∷ s .s2 ∷ [])) → StepRefused ts s w
-    no-destination : unruled s ≡ false → (ds : List ℕ) → sourceDims g ts (upTo (sourcesNeeded (s .op)) (s .s0 ∷ s .s1 ∷ s .s2 ∷ [])) ≡ done ds → isDestination (s .dest .kind) ≡ false → StepRefused ts s Refusal.noRule
+    a-source : {w : Refusal} → unruled s ≡ false → SourcesRefused ts w (upTo (sourcesNeeded (s .op)) (sourcesIn s)) → StepRefused ts s w
+    no-destination : unruled s ≡ false → (ds : List ℕ) → sourceDims g ts (upTo (sourcesNeeded (s .op)) (sourcesIn s)) ≡ done ds → isDestination (s .dest .kind) ≡ false → StepRefused ts s Refusal.noRule
 
   -- step by step
   pub data StepsRefused (w : Refusal) : List ℕ → List Step → Type 0 where

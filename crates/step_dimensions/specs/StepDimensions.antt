@@ -94,15 +94,26 @@ sizedStep s ds =
       s2 = sizedBy ds 2 (s .s2);
     }
 
--- an unknown step, or one with fewer sources than it needs
+-- an unknown step
 abbrev pub unruled : Step → Bool
-unruled s = eqb (sourcesNeeded (s .op)) 0 || ltb (s .count) (sourcesNeeded (s .op))
+unruled s = eqb (sourcesNeeded (s .op)) 0
+
+-- a source that is not there has no rule
+abbrev pub nothing : Reference
+nothing = record { kind = 0; prime = 0; id = 0; dim = 0; p = 0; «tree_pos» = 0; extra = 0 }
+
+abbrev pub met : Bool → Reference → Reference
+met there r = cond there r nothing
+
+-- the sources as a step meets them
+abbrev pub sourcesIn : Step → List Reference
+sourcesIn s = met (ltb 0 (s .count)) (s .s0) ∷ met (ltb 1 (s .count)) (s .s1) ∷ met (ltb 2 (s .count)) (s .s2) ∷ []
 
 module _ (g : Given) where
   unfoldable pub stepWith : List ℕ → Step → Answer Step
   stepWith ts s =
       cond (unruled s) (refused Refusal.noRule none)
-      (sourceDims g ts (upTo (sourcesNeeded (s .op)) (s .s0 ∷ s .s1 ∷ s .s2 ∷ [])) then λ ds.
+      (sourceDims g ts (upTo (sourcesNeeded (s .op)) (sourcesIn s)) then λ ds.
       cond (isDestination (s .dest .kind)) (done (sizedStep s ds)) (refused Refusal.noRule none))
 
 -- a temporary has the dimension of the last step that wrote it

@@ -9,11 +9,11 @@ use Rattle.kinds.specs.declared.reference.Reference.{Reference}
 use Rattle.kinds.specs.declared.step.Step.{Step}
 use Rattle.meaning.specs.Refusals.{Refusal, Answer, done, refused, _then_}
 use Rattle.step_dimensions.specs.Rules.{isDestination}
-use Rattle.step_dimensions.specs.StepDimensions.{Given, sourceDim, sized}
+use Rattle.step_dimensions.specs.StepDimensions.{Given, sourceDim, sized, met}
 
--- a source that the step does not need keeps what it brings
-abbrev pub slotDim : Given → List ℕ → ℕ → ℕ → Reference → Answer ℕ
-slotDim g ts n k r = cond (ltb k n) (sourceDim g ts r) (done (r .dim))
+-- a source that the step does not need keeps what it brings; c sources are there
+abbrev pub slotDim : Given → List ℕ → ℕ → ℕ → ℕ → Reference → Answer ℕ
+slotDim g ts n c k r = cond (ltb k n) (sourceDim g ts (met (ltb k c) r)) (done (r .dim))
 
 unfoldable pub largestOf : ℕ → ℕ → ℕ → ℕ → ℕ
 largestOf n a b c = cond (eqb n 1) a (cond (eqb n 2) (max a b) (max a (max b c)))
@@ -32,7 +32,7 @@ builtStep n s a b c =
 
 unfoldable pub stepBy : Given → List ℕ → ℕ → Step → Answer Step
 stepBy g ts n s =
-    slotDim g ts n 0 (s .s0) then λ a.
-    slotDim g ts n 1 (s .s1) then λ b.
-    slotDim g ts n 2 (s .s2) then λ c.
+    slotDim g ts n (s .count) 0 (s .s0) then λ a.
+    slotDim g ts n (s .count) 1 (s .s1) then λ b.
+    slotDim g ts n (s .count) 2 (s .s2) then λ c.
     cond (isDestination (s .dest .kind)) (done (builtStep n s a b c)) (refused Refusal.noRule none)

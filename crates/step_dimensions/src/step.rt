@@ -65,7 +65,7 @@ fn sized_step(needed: u8, s: Step, a: u16, b: u16, c: u16) -> Step
     }
 }
 
-// The dimension of a source by its place, and what the reference brings where the step does not need it.
+// The dimension of a source by its place, and what the reference brings where the step does not need it. One that is needed and not there has no rule.
 fn needed_dim(
     record_dims: &[u16],
     cm_2ns: &[u16],
@@ -73,13 +73,17 @@ fn needed_dim(
     dim_x: u16,
     temporaries: &[u16; TEMPORARIES],
     needed: u8,
+    count: u8,
     place: u8,
     r: Reference,
 ) -> Sourced
-    ensures { λ a. ⌜ sourcedSays a ≡ slotDim (lent (now (record_dims .entry)) (now («cm_2ns» .entry)) (now (qs .entry)) «dim_x») (now (temporaries .entry)) needed place r ⌝ }
+    ensures { λ a. ⌜ sourcedSays a ≡ slotDim (lent (now (record_dims .entry)) (now («cm_2ns» .entry)) (now (qs .entry)) «dim_x») (now (temporaries .entry)) needed count place r ⌝ }
 {
     if place < needed {
-        return source_dim(record_dims, cm_2ns, qs, dim_x, temporaries, r);
+        if place < count {
+            return source_dim(record_dims, cm_2ns, qs, dim_x, temporaries, r);
+        }
+        return Sourced::Refused(Why::NoRule);
     }
     Sourced::Dim(r.dim)
 }
@@ -98,16 +102,44 @@ pub fn step_with(
     if needed == 0 {
         return Stepped::Refused(Why::NoRule);
     }
-    if s.count < needed {
-        return Stepped::Refused(Why::NoRule);
-    }
-    match needed_dim(record_dims, cm_2ns, qs, dim_x, temporaries, needed, 0, s.s0) {
+    let count = s.count;
+    match needed_dim(
+        record_dims,
+        cm_2ns,
+        qs,
+        dim_x,
+        temporaries,
+        needed,
+        count,
+        0,
+        s.s0,
+    ) {
         Sourced::Refused(w0) => Stepped::Refused(w0),
         Sourced::Dim(a) => {
-            match needed_dim(record_dims, cm_2ns, qs, dim_x, temporaries, needed, 1, s.s1) {
+            match needed_dim(
+                record_dims,
+                cm_2ns,
+                qs,
+                dim_x,
+                temporaries,
+                needed,
+                count,
+                1,
+                s.s1,
+            ) {
                 Sourced::Refused(w1) => Stepped::Refused(w1),
                 Sourced::Dim(b) => {
-                    match needed_dim(record_dims, cm_2ns, qs, dim_x, temporaries, needed, 2, s.s2) {
+                    match needed_dim(
+                        record_dims,
+                        cm_2ns,
+                        qs,
+                        dim_x,
+                        temporaries,
+                        needed,
+                        count,
+                        2,
+                        s.s2,
+                    ) {
                         Sourced::Refused(w2) => Stepped::Refused(w2),
                         Sourced::Dim(c) => {
                             let dest = s.dest;

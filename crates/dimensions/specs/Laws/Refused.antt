@@ -21,7 +21,7 @@ use Rattle.meaning.specs.Trees.{upTo}
 use Rattle.lists.specs.Records.{recordsIn}
 use Rattle.step_dimensions.specs.Rules as rule
 use Rattle.step_dimensions.specs.Rules.{ruleNo, isDestination}
-use Rattle.step_dimensions.specs.StepDimensions.{Given, positive, through, sourceDim, sourceDims, sizedStep, unruled, stepWith, noted}
+use Rattle.step_dimensions.specs.StepDimensions.{Given, positive, through, sourceDim, sourceDims, sizedStep, unruled, sourcesIn, stepWith, noted}
 use Rattle.dimensions.specs.Dimensions.{Passed, passed, passedLists}
 use Rattle.dimensions.specs.Answers.{refusalOf}
 use Rattle.dimensions.specs.Conditions as when
@@ -141,10 +141,10 @@ module _ (g : Given) (ts : List ℕ) where
 
   pub step-way : (s : Step) → Way (StepRefused g ts s) (stepWith g ts s)
   unfolding stepWith
-  step-way s = by (unruled s) refl (sources-way (upTo (sourcesNeeded (s .op)) (s .s0 ∷ s .s1 ∷ s .s2 ∷ []))) (isDestination (s .dest .kind)) refl
+  step-way s = by (unruled s) refl (sources-way (upTo (sourcesNeeded (s .op)) (sourcesIn s))) (isDestination (s .dest .kind)) refl
     where
       by : (t : Bool) → unruled s ≡ t
-          → Way (λ w. SourcesRefused g ts w (upTo (sourcesNeeded (s .op)) (s .s0 ∷ s .s1 ∷ s .s2 ∷ []))) (sourceDims g ts (upTo (sourcesNeeded (s .op)) (s .s0 ∷ s .s1 ∷ s .s2 ∷ [])))
+          → Way (λ w. SourcesRefused g ts w (upTo (sourcesNeeded (s .op)) (sourcesIn s))) (sourceDims g ts (upTo (sourcesNeeded (s .op)) (sourcesIn s)))
           → (d : Bool) → isDestination (s .dest .kind) ≡ d → Way (StepRefused g ts s) (stepWith g ts s)
       by true e way d q = stopped Refusal.noRule (when.no-step e) (rw e)
       by false e (stopped w c z) d q = stopped w (when.a-source e c) (rw (e, z))
@@ -154,7 +154,7 @@ module _ (g : Given) (ts : List ℕ) where
   pub step-refuses : (s : Step) (w : Refusal) → StepRefused g ts s w → stepWith g ts s ≡ refused w none
   unfolding stepWith
   step-refuses s _ (when.no-step e) = rw e
-  step-refuses s w (when.a-source e c) = rw (e, sources-refuse w (upTo (sourcesNeeded (s .op)) (s .s0 ∷ s .s1 ∷ s .s2 ∷ [])) c)
+  step-refuses s w (when.a-source e c) = rw (e, sources-refuse w (upTo (sourcesNeeded (s .op)) (sourcesIn s)) c)
   step-refuses s _ (when.no-destination e ds z q) = rw (e, z, q)
 
 -- ---- the steps of a segment

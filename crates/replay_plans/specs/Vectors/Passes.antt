@@ -1,4 +1,4 @@
--- The 107 vectors of walks, made by tools/plans_to_antt.py.
+-- The 109 vectors of walks, made by tools/plans_to_antt.py.
 -- Assumes nothing.
 use mathlib.Core.Path.{_≡_, refl}
 use mathlib.Core.Bool.{true}
@@ -471,6 +471,14 @@ vectors =
     dims
     (lists′ 0 (step 4 2 (ref 32 0 0 0 0 0 0) (ref 16 0 0 0 0 0 0) (ref 16 0 1 0 0 0 0) blank ∷ []) ([]) ([]))
     (no-more 10) ∷
+    -- m21-the-first-source-decides
+    walkVector
+    (node 16 0 0 0 0 0 ∷ node 16 1 0 0 0 0 ∷ node 3 0 2 0 1 0 ∷ node 22 0 0 0 0 0 ∷ [])
+    (root 2 ∷ root 3 ∷ [])
+    (3 ∷ 4 ∷ 0 ∷ 2 ∷ 0 ∷ 0 ∷ 0 ∷ 0 ∷ 0 ∷ 0 ∷ 0 ∷ 0 ∷ 0 ∷ 0 ∷ 0 ∷ 0 ∷ 0 ∷ 0 ∷ 0 ∷ 0 ∷ 0 ∷ 0 ∷ 0 ∷ 0 ∷ 0 ∷ 0 ∷ [])
+    dims
+    (lists′ 0 (step 1 1 (ref 32 0 0 0 0 0 0) (ref 16 0 2 0 0 0 0) blank blank ∷ []) ([]) ([]))
+    (no-more 3) ∷
     -- m21-unknown-step
     walkVector
     (node 16 0 0 0 0 0 ∷ node 16 1 0 0 0 0 ∷ node 3 0 2 0 1 0 ∷ node 22 0 0 0 0 0 ∷ [])
@@ -535,6 +543,14 @@ vectors =
     dims
     (lists′ 0 (step 0 1 (ref 32 0 0 0 0 0 0) (ref 16 0 4 0 0 0 0) blank blank ∷ []) ([]) ([]))
     (no-more 10) ∷
+    -- list-dims-a-source-before-a-missing-one
+    walkVector
+    (node 16 0 0 0 0 0 ∷ node 22 0 0 0 0 0 ∷ node 18 1 0 0 0 0 ∷ node 17 0 0 0 0 0 ∷ [])
+    (root 0 ∷ root 1 ∷ root 2 ∷ root 3 ∷ [])
+    (3 ∷ 4 ∷ 0 ∷ 2 ∷ 0 ∷ 0 ∷ 0 ∷ 1 ∷ 0 ∷ 1 ∷ 0 ∷ 1 ∷ 0 ∷ 1 ∷ 0 ∷ 0 ∷ 0 ∷ 0 ∷ 0 ∷ 0 ∷ 0 ∷ 1 ∷ 0 ∷ 2 ∷ 0 ∷ 0 ∷ 0 ∷ 2 ∷ 0 ∷ 2 ∷ 0 ∷ 0 ∷ 0 ∷ 4 ∷ [])
+    dims
+    (lists′ 0 (step 4 2 (ref 32 0 0 0 0 0 0) (ref 16 0 0 0 0 0 0) (ref 37 0 0 0 0 0 0) blank ∷ []) ([]) ([]))
+    (no-more 12) ∷
     -- list-dims-a-missing-one
     walkVector
     (node 16 0 0 0 0 0 ∷ node 22 0 0 0 0 0 ∷ node 18 1 0 0 0 0 ∷ node 17 0 0 0 0 0 ∷ [])

@@ -7,16 +7,18 @@ use mathlib.Core.Option.{none}
 use mathlib.Core.List.{List, [], _∷_}
 use native.Mathlib.Omega.{arith}
 use lib.ListN.{set}
+use lib.Dec.{ltb}
 use borrow.Author.Tests.{ne-eqb, lt-ltb, le-ltb}
 use Rattle.kinds.specs.KindBytes as kind
 use Rattle.kinds.specs.KindLaws.{sources-small}
+use Rattle.kinds.specs.Range.{within}
 use Rattle.kinds.specs.StepOps.{sourcesNeeded}
 use Rattle.kinds.specs.declared.reference.Reference.{Reference}
 use Rattle.kinds.specs.declared.step.Step.{Step}
 use Rattle.meaning.specs.Refusals.{Refusal, Answer, done, refused, _then_}
 use Rattle.meaning.specs.Trees.{upTo}
-use Rattle.step_dimensions.specs.Rules.{isDestination}
-use Rattle.step_dimensions.specs.StepDimensions.{Given, sourceDim, sourceDims, largest, sizedStep, stepWith, noted}
+use Rattle.step_dimensions.specs.Rules.{ruleNo, isDestination}
+use Rattle.step_dimensions.specs.StepDimensions.{Given, sourceDim, sourceDims, largest, sizedStep, nothing, met, sourcesIn, stepWith, noted}
 use Rattle.step_dimensions.specs.Steps.{slotDim, largestOf, builtStep, stepBy}
 
 -- ---- the largest
@@ -80,12 +82,12 @@ module _ (s : Step) where
 
   needs : (g : Given) (ts : List ℕ) (n : ℕ) → (n ≡ 0 → ⊥) → n ≤ 3
       → stepBy g ts n s
-      ≡ (sourceDims g ts (upTo n (s .s0 ∷ s .s1 ∷ s .s2 ∷ [])) then λ ds. cond (isDestination (s .dest .kind)) (done (sizedStep s ds)) (refused Refusal.noRule none))
+      ≡ (sourceDims g ts (upTo n (sourcesIn s)) then λ ds. cond (isDestination (s .dest .kind)) (done (sizedStep s ds)) (refused Refusal.noRule none))
   unfolding stepBy sourceDims
   needs g ts zero h l = absurd (h refl)
-  needs g ts (suc zero) h l = by-one (isDestination (s .dest .kind)) (sourceDim g ts (s .s0))
-  needs g ts (suc (suc zero)) h l = by-two (isDestination (s .dest .kind)) (sourceDim g ts (s .s0)) (sourceDim g ts (s .s1))
-  needs g ts (suc (suc (suc zero))) h l = by-three (isDestination (s .dest .kind)) (sourceDim g ts (s .s0)) (sourceDim g ts (s .s1)) (sourceDim g ts (s .s2))
+  needs g ts (suc zero) h l = by-one (isDestination (s .dest .kind)) (sourceDim g ts (met (ltb 0 (s .count)) (s .s0)))
+  needs g ts (suc (suc zero)) h l = by-two (isDestination (s .dest .kind)) (sourceDim g ts (met (ltb 0 (s .count)) (s .s0))) (sourceDim g ts (met (ltb 1 (s .count)) (s .s1)))
+  needs g ts (suc (suc (suc zero))) h l = by-three (isDestination (s .dest .kind)) (sourceDim g ts (met (ltb 0 (s .count)) (s .s0))) (sourceDim g ts (met (ltb 1 (s .count)) (s .s1))) (sourceDim g ts (met (ltb 2 (s .count)) (s .s2)))
   needs g ts (suc (suc (suc (suc n)))) h l = absurd (omega arith)
 
 -- ---- the answers
@@ -97,30 +99,26 @@ module _ (g : Given) (ts : List ℕ) (s : Step) (n : ℕ) (is : n ≡ sourcesNee
       let z : sourcesNeeded (s .op) ≡ 0 = sym is ∙ e in
       rw z
 
-  pub too-few : (n ≡ 0 → ⊥) → s .count < n → refused Refusal.noRule none ≡ stepWith g ts s
-  unfolding stepWith
-  too-few h f = rw (← is, ne-eqb n 0 h, lt-ltb (s .count) n f)
-
-  module _ (some : n ≡ 0 → ⊥) (enough : n ≤ s .count) where
+  module _ (some : n ≡ 0 → ⊥) where
     is-by : stepBy g ts n s ≡ stepWith g ts s
     unfolding stepWith
-    is-by = rw (← is, ne-eqb n 0 some, le-ltb (s .count) n enough) (needs s g ts n some (rw is (sources-small (s .op))))
+    is-by = rw (← is, ne-eqb n 0 some) (needs s g ts n some (rw is (sources-small (s .op))))
 
-    pub stop-first : (w : Refusal) → refused w none ≡ slotDim g ts n 0 (s .s0) → refused w none ≡ stepWith g ts s
+    pub stop-first : (w : Refusal) → refused w none ≡ slotDim g ts n (s .count) 0 (s .s0) → refused w none ≡ stepWith g ts s
     unfolding stepBy
     stop-first w e = sym (sym is-by ∙ rw (← e))
 
-    module _ (a : ℕ) (ea : done a ≡ slotDim g ts n 0 (s .s0)) where
-      pub stop-second : (w : Refusal) → refused w none ≡ slotDim g ts n 1 (s .s1) → refused w none ≡ stepWith g ts s
+    module _ (a : ℕ) (ea : done a ≡ slotDim g ts n (s .count) 0 (s .s0)) where
+      pub stop-second : (w : Refusal) → refused w none ≡ slotDim g ts n (s .count) 1 (s .s1) → refused w none ≡ stepWith g ts s
       unfolding stepBy
       stop-second w e = sym (sym is-by ∙ rw (← ea, ← e))
 
-      module _ (b : ℕ) (eb : done b ≡ slotDim g ts n 1 (s .s1)) where
-        pub stop-third : (w : Refusal) → refused w none ≡ slotDim g ts n 2 (s .s2) → refused w none ≡ stepWith g ts s
+      module _ (b : ℕ) (eb : done b ≡ slotDim g ts n (s .count) 1 (s .s1)) where
+        pub stop-third : (w : Refusal) → refused w none ≡ slotDim g ts n (s .count) 2 (s .s2) → refused w none ≡ stepWith g ts s
         unfolding stepBy
         stop-third w e = sym (sym is-by ∙ rw (← ea, ← eb, ← e))
 
-        module _ (c : ℕ) (ec : done c ≡ slotDim g ts n 2 (s .s2)) (t : Bool) (et : t ≡ isDestination (s .dest .kind)) where
+        module _ (c : ℕ) (ec : done c ≡ slotDim g ts n (s .count) 2 (s .s2)) (t : Bool) (et : t ≡ isDestination (s .dest .kind)) where
           pub no-destination : t ≡ false → refused Refusal.noRule none ≡ stepWith g ts s
           unfolding stepBy
           no-destination h =
@@ -135,11 +133,18 @@ module _ (g : Given) (ts : List ℕ) (s : Step) (n : ℕ) (is : n ≡ sourcesNee
 
 -- ---- a source by its place
 
-pub slot-needed : (g : Given) (ts : List ℕ) (n k : ℕ) (r : Reference) → k < n → sourceDim g ts r ≡ slotDim g ts n k r
-slot-needed g ts n k r h = rw (lt-ltb k n h)
+pub slot-needed : (g : Given) (ts : List ℕ) (n c k : ℕ) (r : Reference) → k < n → k < c → sourceDim g ts r ≡ slotDim g ts n c k r
+slot-needed g ts n c k r h l = rw (lt-ltb k n h, lt-ltb k c l)
 
-pub slot-kept : (g : Given) (ts : List ℕ) (n k : ℕ) (r : Reference) → n ≤ k → done (r .dim) ≡ slotDim g ts n k r
-slot-kept g ts n k r h = rw (le-ltb k n h)
+nothing-ruled : (g : Given) (ts : List ℕ) → sourceDim g ts nothing ≡ refused Refusal.noRule none
+unfolding sourceDim ruleNo within
+nothing-ruled g ts = refl
+
+pub slot-missing : (g : Given) (ts : List ℕ) (n c k : ℕ) (r : Reference) → k < n → c ≤ k → refused Refusal.noRule none ≡ slotDim g ts n c k r
+slot-missing g ts n c k r h l = rw (lt-ltb k n h, le-ltb k c l) (sym (nothing-ruled g ts))
+
+pub slot-kept : (g : Given) (ts : List ℕ) (n c k : ℕ) (r : Reference) → n ≤ k → done (r .dim) ≡ slotDim g ts n c k r
+slot-kept g ts n c k r h = rw (le-ltb k n h)
 
 -- ---- a step noted
 

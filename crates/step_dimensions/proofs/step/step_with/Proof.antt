@@ -3,7 +3,7 @@
 use borrow.Author.Tests.{not-true, not-false}
 use mathlib.Core.Path.{sym, _∙_, ap}
 use Rattle.step_dimensions.specs.Answers.{sourcedSays}
-use Rattle.step_dimensions.specs.Laws.Steps.{no-step, too-few, stop-first, stop-second, stop-third, no-destination, sizes}
+use Rattle.step_dimensions.specs.Laws.Steps.{no-step, stop-first, stop-second, stop-third, no-destination, sizes}
 use borrow.Author.Needs.{needs}
 use Rattle.step_dimensions.proofs.step.step_with.Statement.{statement}
 use Rattle.step_dimensions.proofs.step.step_with.Tie as tie
@@ -13,9 +13,6 @@ sources-needed-requires c κs = search needs
 
 returns : tie.Need-returns
 returns c = no-step _ _ (c .before .before .before .before .before .args .s) _ (c .before .sources-needed .ensures) (c .if1 .taken)
-
-returns-2 : tie.Need-returns-2
-returns-2 c = too-few _ _ (c .before .before .before .before .before .before .before .args .s) _ (c .before .before .before .sources-needed .ensures) (c .before .before .if1 .left) (c .if2 .taken)
 
 needed-dim-requires : tie.Need-needed-dim-requires
 needed-dim-requires c κs = search needs
@@ -47,23 +44,23 @@ enum-known-c c = search needs
 is-destination-requires : tie.Need-is-destination-requires
 is-destination-requires c κs = search needs
 
-returns-3 : tie.Need-returns-3
-returns-3 c = no-destination _ _ (c .before .before .before .before .before .before .before .before .before .before .before .before .before .before .before .before .before .before .before .before .before .before .args .s) _ (c .before .before .before .before .before .before .before .before .before .before .before .before .before .before .before .before .before .before .sources-needed .ensures) (c .before .before .before .before .before .before .before .before .before .before .before .before .before .before .before .before .before .if1 .left) (c .before .before .before .before .before .before .before .before .before .before .before .before .before .before .before .if2 .left) _ (sym (ap sourcedSays (c .before .before .before .before .before .before .before .before .before .before .before .before .a .given .1)) ∙ c .before .before .before .before .before .before .before .before .before .before .before .before .before .before .needed-dim .ensures) _ (sym (ap sourcedSays (c .before .before .before .before .before .before .before .before .b .given .1)) ∙ c .before .before .before .before .before .before .before .before .before .before .needed-dim2 .ensures) _ (sym (ap sourcedSays (c .before .before .before .before .c .given .1)) ∙ c .before .before .before .before .before .before .needed-dim3 .ensures) _ (c .before .is-destination .ensures) (not-true _ (c .if3 .taken))
+returns-2 : tie.Need-returns-2
+returns-2 c = no-destination _ _ (c .before .before .before .before .before .before .before .before .before .before .before .before .before .before .before .before .before .before .before .before .args .s) _ (c .before .before .before .before .before .before .before .before .before .before .before .before .before .before .before .before .sources-needed .ensures) (c .before .before .before .before .before .before .before .before .before .before .before .before .before .before .before .if1 .left) _ (sym (ap sourcedSays (c .before .before .before .before .before .before .before .before .before .before .before .before .a .given .1)) ∙ c .before .before .before .before .before .before .before .before .before .before .before .before .before .before .needed-dim .ensures) _ (sym (ap sourcedSays (c .before .before .before .before .before .before .before .before .b .given .1)) ∙ c .before .before .before .before .before .before .before .before .before .before .needed-dim2 .ensures) _ (sym (ap sourcedSays (c .before .before .before .before .c .given .1)) ∙ c .before .before .before .before .before .before .needed-dim3 .ensures) _ (c .before .is-destination .ensures) (not-true _ (c .if2 .taken))
 
 sized-step-requires : tie.Need-sized-step-requires
 sized-step-requires c κs = search needs
 
+returns-3 : tie.Need-returns-3
+returns-3 c = stop-first _ _ (c .before .before .before .before .before .before .before .before .before .args .s) _ (c .before .before .before .before .before .sources-needed .ensures) (c .before .before .before .before .if1 .left) _ (sym (ap sourcedSays (c .before .w0 .given .1)) ∙ c .before .before .before .needed-dim .ensures)
+
 returns-4 : tie.Need-returns-4
-returns-4 c = stop-first _ _ (c .before .before .before .before .before .before .before .before .before .before .before .args .s) _ (c .before .before .before .before .before .before .before .sources-needed .ensures) (c .before .before .before .before .before .before .if1 .left) (c .before .before .before .before .if2 .left) _ (sym (ap sourcedSays (c .before .w0 .given .1)) ∙ c .before .before .before .needed-dim .ensures)
+returns-4 c = stop-second _ _ (c .before .before .before .before .before .before .before .before .before .before .before .before .before .args .s) _ (c .before .before .before .before .before .before .before .before .before .sources-needed .ensures) (c .before .before .before .before .before .before .before .before .if1 .left) _ (sym (ap sourcedSays (c .before .before .before .before .before .a .given .1)) ∙ c .before .before .before .before .before .before .before .needed-dim .ensures) _ (sym (ap sourcedSays (c .before .w1 .given .1)) ∙ c .before .before .before .needed-dim2 .ensures)
 
 returns-5 : tie.Need-returns-5
-returns-5 c = stop-second _ _ (c .before .before .before .before .before .before .before .before .before .before .before .before .before .before .before .args .s) _ (c .before .before .before .before .before .before .before .before .before .before .before .sources-needed .ensures) (c .before .before .before .before .before .before .before .before .before .before .if1 .left) (c .before .before .before .before .before .before .before .before .if2 .left) _ (sym (ap sourcedSays (c .before .before .before .before .before .a .given .1)) ∙ c .before .before .before .before .before .before .before .needed-dim .ensures) _ (sym (ap sourcedSays (c .before .w1 .given .1)) ∙ c .before .before .before .needed-dim2 .ensures)
+returns-5 c = stop-third _ _ (c .before .before .before .before .before .before .before .before .before .before .before .before .before .before .before .before .before .args .s) _ (c .before .before .before .before .before .before .before .before .before .before .before .before .before .sources-needed .ensures) (c .before .before .before .before .before .before .before .before .before .before .before .before .if1 .left) _ (sym (ap sourcedSays (c .before .before .before .before .before .before .before .before .before .a .given .1)) ∙ c .before .before .before .before .before .before .before .before .before .before .before .needed-dim .ensures) _ (sym (ap sourcedSays (c .before .before .before .before .before .b .given .1)) ∙ c .before .before .before .before .before .before .before .needed-dim2 .ensures) _ (sym (ap sourcedSays (c .before .w2 .given .1)) ∙ c .before .before .before .needed-dim3 .ensures)
 
 returns-6 : tie.Need-returns-6
-returns-6 c = stop-third _ _ (c .before .before .before .before .before .before .before .before .before .before .before .before .before .before .before .before .before .before .before .args .s) _ (c .before .before .before .before .before .before .before .before .before .before .before .before .before .before .before .sources-needed .ensures) (c .before .before .before .before .before .before .before .before .before .before .before .before .before .before .if1 .left) (c .before .before .before .before .before .before .before .before .before .before .before .before .if2 .left) _ (sym (ap sourcedSays (c .before .before .before .before .before .before .before .before .before .a .given .1)) ∙ c .before .before .before .before .before .before .before .before .before .before .before .needed-dim .ensures) _ (sym (ap sourcedSays (c .before .before .before .before .before .b .given .1)) ∙ c .before .before .before .before .before .before .before .needed-dim2 .ensures) _ (sym (ap sourcedSays (c .before .w2 .given .1)) ∙ c .before .before .before .needed-dim3 .ensures)
-
-returns-7 : tie.Need-returns-7
-returns-7 c = sizes _ _ (c .before .before .before .before .before .before .before .before .before .before .before .before .before .before .before .before .before .before .before .before .before .before .before .args .s) _ (c .before .before .before .before .before .before .before .before .before .before .before .before .before .before .before .before .before .before .before .sources-needed .ensures) (c .before .before .before .before .before .before .before .before .before .before .before .before .before .before .before .before .before .before .if1 .left) (c .before .before .before .before .before .before .before .before .before .before .before .before .before .before .before .before .if2 .left) _ (sym (ap sourcedSays (c .before .before .before .before .before .before .before .before .before .before .before .before .before .a .given .1)) ∙ c .before .before .before .before .before .before .before .before .before .before .before .before .before .before .before .needed-dim .ensures) _ (sym (ap sourcedSays (c .before .before .before .before .before .before .before .before .before .b .given .1)) ∙ c .before .before .before .before .before .before .before .before .before .before .before .needed-dim2 .ensures) _ (sym (ap sourcedSays (c .before .before .before .before .before .c .given .1)) ∙ c .before .before .before .before .before .before .before .needed-dim3 .ensures) _ (c .before .before .is-destination .ensures) (not-false _ (c .before .if3 .left)) _ (c .sized-step .ensures)
+returns-6 c = sizes _ _ (c .before .before .before .before .before .before .before .before .before .before .before .before .before .before .before .before .before .before .before .before .before .args .s) _ (c .before .before .before .before .before .before .before .before .before .before .before .before .before .before .before .before .before .sources-needed .ensures) (c .before .before .before .before .before .before .before .before .before .before .before .before .before .before .before .before .if1 .left) _ (sym (ap sourcedSays (c .before .before .before .before .before .before .before .before .before .before .before .before .before .a .given .1)) ∙ c .before .before .before .before .before .before .before .before .before .before .before .before .before .before .before .needed-dim .ensures) _ (sym (ap sourcedSays (c .before .before .before .before .before .before .before .before .before .b .given .1)) ∙ c .before .before .before .before .before .before .before .before .before .before .before .needed-dim2 .ensures) _ (sym (ap sourcedSays (c .before .before .before .before .before .c .given .1)) ∙ c .before .before .before .before .before .before .before .needed-dim3 .ensures) _ (c .before .before .is-destination .ensures) (not-false _ (c .before .if2 .left)) _ (c .sized-step .ensures)
 
 pub step-with-spec : {M : Type 1} → statement M
 step-with-spec =
@@ -71,7 +68,6 @@ step-with-spec =
     (tie.spec
     sources-needed-requires
     returns
-    returns-2
     needed-dim-requires
     enum-known-w0
     enum-known-a
@@ -82,9 +78,9 @@ step-with-spec =
     enum-known-w2
     enum-known-c
     is-destination-requires
-    returns-3
+    returns-2
     sized-step-requires
+    returns-3
     returns-4
     returns-5
-    returns-6
-    returns-7)
+    returns-6)
