@@ -18,3 +18,9 @@ pub const NO_BLOCK: u8 = 8;
 pub const FULL: u8 = 9;
 
 pub const NO_RULE: u8 = 10;
+
+pub const COUNTS_DISAGREE: u8 = 11;
+
+pub const DIMENSIONS_DISAGREE: u8 = 12;
+
+pub const BIT_COUNTS: u8 = 16;

@@ -40,7 +40,7 @@ pub struct Admission {
 }
 
 // Refusals 2 and 3.
-fn shape_of(
+pub fn shape_of(
     nodes: &[u64; NODE_WORDS],
     expressions: &[u64; EXPRESSION_LIMIT],
     n: usize,
@@ -76,7 +76,7 @@ fn shape_of(
 }
 
 // Refusal 4, or the ranks.
-fn ranked(
+pub fn ranked(
     nodes: &[u64; NODE_WORDS],
     expressions: &[u64; EXPRESSION_LIMIT],
     table: &[u64],
