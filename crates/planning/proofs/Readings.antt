@@ -24,6 +24,7 @@ use Rattle.plans.specs.Plan.{Whole, q2expCount, isPlan}
 use Rattle.plans.specs.Columns.{fits}
 use Rattle.plans.specs.Passed.{plan-whole, few-records}
 use Rattle.map_records.specs.Mapping.{Mapping, mapped}
+use Rattle.planning.specs.Laws.Argued.{no-plan, too-many, ill-formed, well-formed, refused-both}
 use Rattle.planning.specs.Planning.{argued, Verdict, columned, Planned, planned, Judged, Plans}
 use Rattle.planning.specs.Answers.{unplannedSays, Fitting, ReadAsked, PoolAsked, PoolGiven, Ruled, Tells, Told, Argued, ReadGiven, FramesAsked, FramesGiven}
 use Rattle.planning.specs.declared.answer.Unplanned.{Unplanned}
@@ -32,23 +33,6 @@ use Rattle.planning.specs.declared.answer.Planning.{Planning}
 use Rattle.planning.specs.declared.answer.Planning.the-variants as planning
 
 -- ---- the arguments
-
-module _ (b : List ℕ) (own : Bool) where
-  no-plan : isPlan b ≡ false → argued b own ≡ refused Refusal.malformed none
-  unfolding argued
-  no-plan e = rw e
-
-  too-many : isPlan b ≡ true → fits b ≡ false → argued b own ≡ refused Refusal.full none
-  unfolding argued
-  too-many e f = rw (e, f)
-
-  ill-formed : isPlan b ≡ true → fits b ≡ true → own ≡ false → argued b own ≡ refused Refusal.malformed none
-  unfolding argued
-  ill-formed e f h = rw (e, f, h)
-
-  well-formed : isPlan b ≡ true → fits b ≡ true → own ≡ true → argued b own ≡ done tt
-  unfolding argued
-  well-formed e f h = rw (e, f, h)
 
 pub whole : (b : List ℕ) {x : Bool} → x ≡ isPlan b → x ≡ true → Whole b
 whole b e h = plan-whole b (sym e ∙ h)
@@ -60,16 +44,10 @@ module _ (b : List ℕ) (own : Bool) (t : Tables) {table ss ds cs : List ℕ} wh
   unfit : {k : Refusal} {o : Option ℕ} (u : Unplanned) → argued b own ≡ refused k o → refused k o ≡ unplannedSays {A = Planned} u → Argued b own t table ss ds cs (planning.Refused u)
   unfit {k} {o} u e q = record {
     answer = refused k o;
-    unfit = λ k o z. same (sym e ∙ z);
+    unfit = λ k o z. refused-both (sym e ∙ z);
     judged = λ z. absurd (done-not-refused (sym z ∙ e));
     told = q;
   }
-    where
-      same : {k l : Refusal} {o p : Option ℕ} → _≡_ {A = Answer (Unit {0})} (refused k o) (refused l p) → _≡_ {A = Answer Planned} (refused k o) (refused l p)
-      same {k} {l} {o} {p} e =
-          let x : k ≡ l = cc in
-          let y : o ≡ p = cc in
-          rw (x, y)
 
   module _ {x : Bool} (e : x ≡ isPlan b) where
     pub no-plan-told : x ≡ false → Argued b own t table ss ds cs (planning.Refused why.IllFormed)
@@ -144,7 +122,7 @@ module _ {s : List ℕ} {u : frames.Tables} {r : Reading} (g : Fills s r u) (b :
   unread {k} {o} v h e = record {
     answer = refused k o;
     plans = record {
-      unread = λ l p q. same (h ∙ q);
+      unread = λ l p q. refused-both (h ∙ q);
       unfit = λ i q. absurd (done-not-refused (sym q ∙ sym h));
       judged = λ i q. absurd (done-not-refused (sym q ∙ sym h));
     };
@@ -153,12 +131,6 @@ module _ {s : List ℕ} {u : frames.Tables} {r : Reading} (g : Fills s r u) (b :
     expressionCount = 0;
     told = e;
   }
-    where
-      same : {k l : Refusal} {o p : Option ℕ} → _≡_ {A = Answer Input} (refused k o) (refused l p) → _≡_ {A = Answer Planned} (refused k o) (refused l p)
-      same {k} {l} {o} {p} e =
-          let x : k ≡ l = cc in
-          let y : o ≡ p = cc in
-          rw (x, y)
 
   pub malformed-told : {z : Blame} → r ≡ was.Malformed z → FramesGiven s b own (u .nodes) (u .expressions) table ss ds cs (planning.Refused (why.Malformed z))
   malformed-told {z} q = unread (why.Malformed z) (ap (held u) (sym q) ∙ g .answer) refl

@@ -1,2 +1,6 @@
+-- The definitions that the contracts cite, and the theorems on them.
 pub mod Planning
 pub mod Answers
+pub mod Laws
+pub mod Ways
+pub mod Exactly

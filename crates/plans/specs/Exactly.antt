@@ -108,7 +108,7 @@ module _ (b : List ℕ) where
 abbrev pub LeafLost : ℕ → ℕ → ℕ → ℕ → Type 0
 LeafLost cms qs k d = ((k ≡ kind.cm) × (cms ≤ d)) ⊎ ((k ≡ kind.q) × (qs ≤ d))
 
-leaf-fails : (cms qs k d : ℕ) → Fails (leafThere cms qs k d) (LeafLost cms qs k d)
+pub leaf-fails : (cms qs k d : ℕ) → Fails (leafThere cms qs k d) (LeafLost cms qs k d)
 leaf-fails cms qs k d = (λ e. to (eqb k kind.cm) refl (eqb k kind.q) refl e, back)
   where
     at : (a : Bool) → eqb k kind.cm ≡ a → (c : Bool) → eqb k kind.q ≡ c → leafThere cms qs k d ≡ cond a (ltb d cms) (cond c (ltb d qs) true)

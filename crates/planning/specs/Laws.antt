@@ -1,0 +1,2 @@
+-- Laws on the definitions, which proofs here and theorems above use.
+pub mod Argued
