@@ -1,0 +1,3 @@
+-- The definitions that the contracts cite, and the laws on them that other crates use.
+pub mod Tables
+pub mod Listed

@@ -1,0 +1,2 @@
+// The tables that a plan gives to the walks over lists and to the answer of `map`.
+pub mod numbers;
