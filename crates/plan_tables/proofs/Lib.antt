@@ -1,2 +1,3 @@
 -- Lemmas over plain variables, which the functions' proofs cite.
 pub mod Sectioned
+pub mod Summed

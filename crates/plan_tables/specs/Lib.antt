@@ -1,3 +1,4 @@
 -- The definitions that the contracts cite, and the laws on them that other crates use.
 pub mod Tables
 pub mod Listed
+pub mod Bounds

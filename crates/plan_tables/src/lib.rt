@@ -1,2 +1,3 @@
 // The tables that a plan gives to the walks over lists and to the answer of `map`.
 pub mod numbers;
+pub mod offsets;
