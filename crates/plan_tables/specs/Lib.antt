@@ -2,3 +2,4 @@
 pub mod Tables
 pub mod Listed
 pub mod Bounds
+pub mod Gathered

@@ -1,3 +1,4 @@
 // The tables that a plan gives to the walks over lists and to the answer of `map`.
+pub mod columns;
 pub mod numbers;
 pub mod offsets;
