@@ -2,3 +2,5 @@
 pub mod Sectioned
 pub mod Summed
 pub mod Growing
+pub mod Filled
+pub mod Ruled

@@ -3,3 +3,5 @@ pub mod Tables
 pub mod Listed
 pub mod Bounds
 pub mod Gathered
+pub mod Cells
+pub mod Rules

@@ -2,3 +2,4 @@
 pub mod columns;
 pub mod numbers;
 pub mod offsets;
+pub mod rules;
