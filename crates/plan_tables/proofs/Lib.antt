@@ -4,3 +4,4 @@ pub mod Summed
 pub mod Growing
 pub mod Filled
 pub mod Ruled
+pub mod Copied

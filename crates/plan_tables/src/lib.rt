@@ -2,4 +2,5 @@
 pub mod columns;
 pub mod numbers;
 pub mod offsets;
+pub mod qs;
 pub mod rules;
