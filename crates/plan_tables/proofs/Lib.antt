@@ -5,3 +5,4 @@ pub mod Growing
 pub mod Filled
 pub mod Ruled
 pub mod Copied
+pub mod Treed

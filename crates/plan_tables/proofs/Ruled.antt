@@ -22,7 +22,7 @@ use Rattle.exp_dims.specs.Dimension.{expDim}
 use Rattle.exp_dims.specs.Known.{D, Sound, World, ExpAsks, Gives}
 use Rattle.sections.specs.Sums.{each}
 use Rattle.map_records.specs.Tables.{Ready}
-use Rattle.plan_tables.specs.Tables.{ofColumn, ofIm, ruleWord, ruleOf, rulesOf}
+use Rattle.plan_tables.specs.Tables.{ofColumn, ofIm, packed, ruleOf, rulesOf}
 use Rattle.plan_tables.specs.Cells.{Cells, ImsAsks}
 use Rattle.plan_tables.specs.Gathered.{columnsOf}
 use Rattle.plan_tables.specs.Rules.{ColumnRulesAsks, columnWord, byColumns, RulesAsks}
@@ -57,11 +57,11 @@ module _ {t : Tables} {rank : ℕ → ℕ} {table columns : List ℕ} {count : �
       pub column-asks : ExpAsks t table dims rank known e
       column-asks = record { world = record { starts = a .starts; ranked = a .ranked }; there = there; sound = h .sound }
 
-      pub rules-next : {known′ : List ℕ} {d v : ℕ} → Gives t table dims known′ (D t table dims e) d → v ≡ ruleWord kind.tmpExp j d → RulesFrom t table dims columns count before j known′ (set rules e v)
+      pub rules-next : {known′ : List ℕ} {d v : ℕ} → Gives t table dims known′ (D t table dims e) d → v ≡ packed kind.tmpExp j d → RulesFrom t table dims columns count before j known′ (set rules e v)
       rules-next {known′} {d} {v} g is =
           record {
             sound = g .sound;
-            cells = columns-next (columnWord t table dims) (λ e. getD before e 0) columns count k j q l (a .inside) at there (is ∙ ap (ruleWord kind.tmpExp j) (g .is)) (h .cells);
+            cells = columns-next (columnWord t table dims) (λ e. getD before e 0) columns count k j q l (a .inside) at there (is ∙ ap (packed kind.tmpExp j) (g .is)) (h .cells);
           }
 
     pub rules-all : k ≡ 0 → Cells (t .expressionCount) (byColumns t table dims columns count before) before rules
@@ -117,7 +117,7 @@ module _ {b : List ℕ} {t : Tables} {rank : ℕ → ℕ} {table columns : List 
     pub ims-ask : {rules₁ : List ℕ} → Cells (t .expressionCount) (byColumns t table dims columns used rules) rules rules₁ → ImsAsks b (t .expressionCount) (byColumns t table dims columns used rules) rules rules₁
     ims-ask c = record { there = names-there b (t .expressionCount) (a .ready .names) .im; cells = c }
 
-    by-domain : (c : Bool) → inN ≡ c → (x : ℕ) → x < t .expressionCount → byColumns t table dims columns used rules x ≡ cond inN (ofColumn (λ k. ruleWord kind.tmpExp k (expDim dims (q2exp b) (tabled t) x)) x 0 (columnsOf b) 0) 0
+    by-domain : (c : Bool) → inN ≡ c → (x : ℕ) → x < t .expressionCount → byColumns t table dims columns used rules x ≡ cond inN (ofColumn (λ k. packed kind.tmpExp k (expDim dims (q2exp b) (tabled t) x)) x 0 (columnsOf b) 0) 0
     by-domain true p x h = rw (e, p, a .listed, a .tabling, cleared x h)
       where
         cleared : (y : ℕ) → y < t .expressionCount → getD rules y 0 ≡ 0
@@ -126,8 +126,8 @@ module _ {b : List ℕ} {t : Tables} {rank : ℕ → ℕ} {table columns : List 
 
     -- THE RULES STAND THERE
     pub rules-filled :
-        {rules₂ : List ℕ} → Cells (t .expressionCount) (λ x. ofIm b (λ i. ruleWord kind.cm (imCm b i) 0) x (imCount b) (byColumns t table dims columns used rules x)) rules rules₂ →
+        {rules₂ : List ℕ} → Cells (t .expressionCount) (λ x. ofIm b (λ i. packed kind.cm (imCm b i) 0) x (imCount b) (byColumns t table dims columns used rules x)) rules rules₂ →
         rules₂ ≡ write rules 0 (rulesOf b (tabled t) dims (columnsOf b) inN)
     rules-filled {rules₂} c =
-        cells-all (cells-same (λ x h. ap (ofIm b (λ i. ruleWord kind.cm (imCm b i) 0) x (imCount b)) (by-domain inN refl x h)) c)
+        cells-all (cells-same (λ x h. ap (ofIm b (λ i. packed kind.cm (imCm b i) 0) x (imCount b)) (by-domain inN refl x h)) c)
         ∙ ap (λ z. write rules 0 (each (ruleOf b (tabled t) dims (columnsOf b) inN) z)) (sym (expression-count t))

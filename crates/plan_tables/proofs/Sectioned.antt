@@ -50,18 +50,22 @@ module _ (a b : ℕ) where
       by true h = ap (λ (z : List ℕ). k ∷ z) h
       by false h = h
 
-  module _ (ss : List ℕ) {l t : List ℕ} {n k : ℕ} (inside : k ≤ length ss) (h : Listed l t n (numbersIn a b 0 (take k ss))) where
+  module _ (ss : List ℕ) (k : ℕ) where
     -- there are no more numbers than records
-    pub numbers-room : n ≤ k
-    numbers-room = omega (arith, h .count, numbers-few 0 (take k ss), length-take-le k ss inside)
+    pub numbers-most : k ≤ length ss → length (numbersIn a b 0 (take k ss)) ≤ k
+    numbers-most inside = omega (arith, numbers-few 0 (take k ss), length-take-le k ss inside)
 
-  pub numbers-next :
-      (ss : List ℕ) {l t t′ : List ℕ} {n k r : ℕ} → k < length ss → Listed l t n (numbersIn a b 0 (take k ss)) → Put (within a b (getD ss k 0)) t t′ n k r →
-      Listed l t′ r (numbersIn a b 0 (take (k + 1) ss))
-  numbers-next ss {l} {t} {t′} {n} {k} {r} inside h q =
-      let size : length (take k ss) ≡ k = length-take-le k ss (omega arith) in
-      let more : numbersIn a b 0 (take (k + 1) ss) ≡ numbersIn a b 0 (take k ss) ++ cond (within a b (getD ss k 0)) (k ∷ []) [] = rw (add-one k, take-suc ss k 0 inside) (numbers-snoc 0 (take k ss) (getD ss k 0) k (omega arith)) in
-      subst (λ z. Listed l t′ r z) (sym more) (listed-put h (within a b (getD ss k 0)) k q)
+    pub numbers-more : k < length ss → numbersIn a b 0 (take (k + 1) ss) ≡ numbersIn a b 0 (take k ss) ++ cond (within a b (getD ss k 0)) (k ∷ []) []
+    numbers-more inside =
+        let size : length (take k ss) ≡ k = length-take-le k ss (omega arith) in
+        rw (add-one k, take-suc ss k 0 inside) (numbers-snoc 0 (take k ss) (getD ss k 0) k (omega arith))
+
+  module _ (ss : List ℕ) {l t : List ℕ} {n k : ℕ} (h : Listed l t n (numbersIn a b 0 (take k ss))) where
+    pub numbers-room : k ≤ length ss → n ≤ k
+    numbers-room inside = omega (arith, h .count, numbers-most ss k inside)
+
+    pub numbers-next : {t′ : List ℕ} {r : ℕ} → k < length ss → Put (within a b (getD ss k 0)) t t′ n k r → Listed l t′ r (numbersIn a b 0 (take (k + 1) ss))
+    numbers-next {t′} {r} inside q = subst (λ z. Listed l t′ r z) (sym (numbers-more ss k inside)) (listed-put h (within a b (getD ss k 0)) k q)
 
   pub numbers-end : (ss : List ℕ) (count : ℕ) {l t : List ℕ} {n : ℕ} (k : ℕ) → Listed l t n (numbersIn a b 0 (take k ss)) → k ≡ count → Listed l t n (numbersIn a b 0 (take count ss))
   numbers-end ss count {l} {t} {n} k h e = subst (λ z. Listed l t n (numbersIn a b 0 (take z ss))) e h

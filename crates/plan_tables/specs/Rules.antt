@@ -14,7 +14,7 @@ use Rattle.plans.specs.Columns.{recordLimit}
 use Rattle.exp_dims.specs.Dimension.{expDim}
 use Rattle.pool.specs.Admission.{Ranked}
 use Rattle.map_records.specs.Tables.{Ready}
-use Rattle.plan_tables.specs.Tables.{ofColumn, ruleWord, rulesOf}
+use Rattle.plan_tables.specs.Tables.{ofColumn, packed, rulesOf}
 use Rattle.plan_tables.specs.Cells.{Cells}
 use Rattle.plan_tables.specs.Gathered.{columnsOf}
 
@@ -33,7 +33,7 @@ ColumnRulesAsked w x table columns count rules = (l : List ℕ) × (n : ℕ) × 
 
 -- the rule of expression e by column k
 abbrev pub columnWord : Tables → List ℕ → List ℕ → ℕ → ℕ → ℕ
-columnWord t table dims e k = ruleWord kind.tmpExp k (expDim dims table (tabled t) e)
+columnWord t table dims e k = packed kind.tmpExp k (expDim dims table (tabled t) e)
 
 -- and by the first of the columns that is e's; else what stood there
 abbrev pub byColumns : Tables → List ℕ → List ℕ → List ℕ → ℕ → List ℕ → ℕ → ℕ

@@ -15,6 +15,10 @@ use Rattle.sections.specs.Sections.{sectionCount, positionsFrom}
 use Rattle.plans.specs.Plan.{cm1, cm2, imCount, imOf, imCm, productCount, q2exp}
 use Rattle.map_records.specs.Mapping.{Mapping, cm1N, cm4N, tmpexpN, twin}
 
+-- kind, number and dimension in one number, as the walks over lists read them
+abbrev pub packed : ℕ → ℕ → ℕ → ℕ
+packed k i d = k * 0x100000000 + i * 0x10000 + d
+
 -- ── records ──────────────────────────────────────────────────────────────────
 -- the numbers, from k on, of the records in sections a to b
 abbrev pub numbersIn : ℕ → ℕ → ℕ → List ℕ → List ℕ
@@ -33,19 +37,23 @@ abbrev pub columnRecords : Mapping → List ℕ
 columnRecords m = numbersIn tmpexpN tmpexpN 0 (m .sections)
 
 -- ── trees ────────────────────────────────────────────────────────────────────
--- tree1 to tree4 by section, with position and dimension, in one number
+-- tree1 to tree4 by section, with position and dimension
 abbrev pub treeWord : ℕ → ℕ → ℕ → ℕ
-treeWord s p d = (kind.tree1 + s - twin cm1N) * 0x100000000 + p * 0x10000 + d
+treeWord s p d = packed (kind.tree1 + (s - twin cm1N)) p d
 
 abbrev pub treesOf : List ℕ → List ℕ → List ℕ → List ℕ → List ℕ
 treesOf ss ds ps [] = []
 treesOf ss ds ps (r ∷ rs) = treeWord (getD ss r 0) (getD ps r 0) (getD ds r 0) ∷ treesOf ss ds ps rs
 
+-- those of the records in "2ns" of a cm
+abbrev pub treesIn : List ℕ → List ℕ → List ℕ → List ℕ
+treesIn ss ds ps = treesOf ss ds ps (numbersIn (twin cm1N) (twin cm4N) 0 ss)
+
 abbrev pub positions : Mapping → List ℕ
 positions m = positionsFrom (m .sections) (m .dims) (replicate (length (m .sections)) 0)
 
 abbrev pub trees : Mapping → List ℕ
-trees m = treesOf (m .sections) (m .dims) (positions m) (cm2ns m)
+trees m = treesIn (m .sections) (m .dims) (positions m)
 
 -- ── by expression ────────────────────────────────────────────────────────────
 -- what the first column of expression e has, where those from number k on are listed; else another
@@ -58,18 +66,14 @@ abbrev pub ofIm : List ℕ → (ℕ → ℕ) → ℕ → ℕ → ℕ → ℕ
 ofIm b f e zero other = other
 ofIm b f e (suc i) other = cond (eqb (imOf b i) e) (f i) (ofIm b f e i other)
 
--- a rule of fixing is kind, id and dimension in one number
-abbrev pub ruleWord : ℕ → ℕ → ℕ → ℕ
-ruleWord k i d = k * 0x100000000 + i * 0x10000 + d
-
 module _ (b : List ℕ) (p : Pool) (cmDims columns : List ℕ) where
   -- a temporary column has the dimension of its expression
   abbrev pub columnRule : ℕ → ℕ
-  columnRule e = ofColumn (λ k. ruleWord kind.tmpExp k (expDim cmDims (q2exp b) p e)) e 0 columns 0
+  columnRule e = ofColumn (λ k. packed kind.tmpExp k (expDim cmDims (q2exp b) p e)) e 0 columns 0
 
   -- WHAT AN EXPRESSION BECOMES: an intermediate its cm, in "n" one with a temporary column that, any other a new temporary
   abbrev pub ruleOf : Bool → ℕ → ℕ
-  ruleOf inN e = ofIm b (λ i. ruleWord kind.cm (imCm b i) 0) e (imCount b) (cond inN (columnRule e) 0)
+  ruleOf inN e = ofIm b (λ i. packed kind.cm (imCm b i) 0) e (imCount b) (cond inN (columnRule e) 0)
 
   abbrev pub rulesOf : Bool → List ℕ
   rulesOf inN = each (ruleOf inN) (length (p .expressions))

@@ -2,5 +2,7 @@
 pub mod columns;
 pub mod numbers;
 pub mod offsets;
+pub mod packed;
 pub mod qs;
 pub mod rules;
+pub mod trees;

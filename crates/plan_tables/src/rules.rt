@@ -1,4 +1,5 @@
-// What fixing makes of each expression, as kind * 2^32 + id * 2^16 + dimension.
+// What fixing makes of each expression.
+use crate::packed::pack;
 use exp_dims::dim::get_exp_dim;
 use frames::count::EXPRESSION_LIMIT;
 use frames::tables::NODE_WORDS;
@@ -8,25 +9,13 @@ use plans::layout::im_at;
 use plans::layout::im_count;
 use plans::layout::number_at;
 use sections::map_section::RECORD_LIMIT;
-ghost use Prim.Native.Nat.{_<_};
 ghost use mathlib.Core.Path.{_≡_};
 ghost use mathlib.Core.Bool.{cond};
 ghost use Rattle.kinds.specs.KindBytes as kind;
-ghost use Rattle.plans.specs.Plan.{numberLimit, imCm};
-ghost use Rattle.plan_tables.specs.Tables.{ruleWord};
+ghost use Rattle.plans.specs.Plan.{imCm};
+ghost use Rattle.plan_tables.specs.Tables.{packed};
 ghost use Rattle.plan_tables.specs.Cells.{ImsAsked, ImsGiven};
 ghost use Rattle.plan_tables.specs.Rules.{ColumnRulesAsked, ColumnRulesGiven, RulesAsked, RulesGiven};
-
-const KIND_UNIT: u64 = 0x100000000;
-
-const ID_UNIT: u64 = 0x10000;
-
-fn rule_word(kind: u8, id: usize, dim: u16) -> u64
-    requires { ⌜ id < numberLimit ⌝ }
-    ensures { λ r. ⌜ r ≡ ruleWord kind id dim ⌝ }
-{
-    kind as u64 * KIND_UNIT + id as u64 * ID_UNIT + dim as u64
-}
 
 // tmpExp with the dimension of the expression, for each column. From the last column to the first, so that an expression's first one stays.
 fn fill_columns(
@@ -47,14 +36,14 @@ fn fill_columns(
         k -= 1;
         let e = columns[k] as usize;
         let d = get_exp_dim(nodes, expressions, table, cmdims, &mut known, e);
-        rules[e] = rule_word(Kind::TMP_EXP, k, d);
+        rules[e] = pack(Kind::TMP_EXP, k, d);
     }
 }
 
 // The cm of each intermediate.
 fn fill_intermediates(plan: &[u8], rules: &mut [u64; EXPRESSION_LIMIT])
     requires { ⌜ ImsAsked (now plan) (now rules) ⌝ }
-    ensures { λ _. ⌜ ImsGiven (now (plan .entry)) (now (rules .entry)) (now (rules .exit)) (λ i. ruleWord kind.cm (imCm (now (plan .entry)) i) 0) ⌝ }
+    ensures { λ _. ⌜ ImsGiven (now (plan .entry)) (now (rules .entry)) (now (rules .exit)) (λ i. packed kind.cm (imCm (now (plan .entry)) i) 0) ⌝ }
 {
     let count = im_count(plan);
     let at = im_at(plan);
@@ -62,7 +51,7 @@ fn fill_intermediates(plan: &[u8], rules: &mut [u64; EXPRESSION_LIMIT])
     while i < count {
         let e = number_at(plan, at + PAIR_SIZE * i);
         let cm = number_at(plan, at + PAIR_SIZE * i + 1);
-        rules[e] = rule_word(Kind::CM, cm, 0);
+        rules[e] = pack(Kind::CM, cm, 0);
         i += 1;
     }
 }

@@ -24,7 +24,7 @@ element-copy-out-put-number : tie.Need-element-copy-out-put-number Inv-loop μ-l
 element-copy-out-put-number c = omega (arith, c .before .before .before .pre .0, c .before .before .before .pre .1, c .before .loop-test .taken)
 
 put-number-requires : tie.Need-put-number-requires Inv-loop μ-loop
-put-number-requires c κs = (numbers-room (c .before .before .before .before .args .from) (c .before .before .before .before .args .to) (c .before .before .before .before .args .sections .now) (omega (arith, c .before .before .before .before .pre .0, c .before .before .before .before .pre .1, c .before .before .loop-test .taken)) (c .before .before .before .loop .inv .1), omega (arith, c .before .before .before .before .pre .1, c .before .before .loop-test .taken))
+put-number-requires c κs = (numbers-room (c .before .before .before .before .args .from) (c .before .before .before .before .args .to) (c .before .before .before .before .args .sections .now) (c .before .before .before .loop .inv .1) (omega (arith, c .before .before .before .before .pre .0, c .before .before .before .before .pre .1, c .before .before .loop-test .taken)), omega (arith, c .before .before .before .before .pre .1, c .before .before .loop-test .taken))
 
 add-k : tie.Need-add-k Inv-loop μ-loop
 add-k c = omega (arith, c .before .before .before .before .before .pre .0, c .before .before .before .before .before .pre .1, c .before .before .before .loop-test .taken)
@@ -33,7 +33,7 @@ loop-less : tie.Need-loop-less Inv-loop μ-loop
 loop-less c = omega (arith, c .before .before .before .before .before .pre .0, c .before .before .before .before .before .pre .1, c .before .before .before .loop-test .taken)
 
 loop-again : tie.Need-loop-again Inv-loop μ-loop
-loop-again c = (omega (arith, c .before .before .before .loop-test .taken), numbers-next (c .before .before .before .before .before .args .from) (c .before .before .before .before .before .args .to) (c .before .before .before .before .before .args .sections .now) (omega (arith, c .before .before .before .before .before .pre .0, c .before .before .before .before .before .pre .1, c .before .before .before .loop-test .taken)) (c .before .before .before .before .loop .inv .1) (c .put-number .ensures))
+loop-again c = (omega (arith, c .before .before .before .loop-test .taken), numbers-next (c .before .before .before .before .before .args .from) (c .before .before .before .before .before .args .to) (c .before .before .before .before .before .args .sections .now) (c .before .before .before .before .loop .inv .1) (omega (arith, c .before .before .before .before .before .pre .0, c .before .before .before .before .before .pre .1, c .before .before .before .loop-test .taken)) (c .put-number .ensures))
 
 returns : tie.Need-returns Inv-loop μ-loop
 returns c = numbers-end (c .before .before .args .from) (c .before .before .args .to) (c .before .before .args .sections .now) (c .before .before .args .count) (c .before .loop .k) (c .before .loop .inv .1) (omega (arith, c .loop-test .left, c .before .loop .inv .0))

@@ -33,8 +33,8 @@ cast-e c = omega (arith, column-below (c .before .before .before .before .before
 get-exp-dim-requires : tie.Need-get-exp-dim-requires Inv-loop μ-loop
 get-exp-dim-requires c κs = (c .before .before .before .before .before .before .pre .0, c .before .before .before .before .before .before .pre .1, c .before .before .before .before .before .before .pre .2, c .before .before .before .before .before .before .pre .3, column-asks (c .before .before .before .before .before .before .pre .4) (c .before .before .before .before .before .before .args .cmdims .now) (c .before .before .before .loop .inv .1 (c .before .before .before .before .before .before .pre .0) (c .before .before .before .before .before .before .pre .1) (c .before .before .before .before .before .before .pre .2) (c .before .before .before .before .before .before .pre .3) (c .before .before .before .before .before .before .pre .4)) (c .before .before .before .loop .inv .0) (c .before .before .before .loop .k - 1) (omega (arith, c .before .before .loop-test .taken)) refl)
 
-rule-word-requires : tie.Need-rule-word-requires Inv-loop μ-loop
-rule-word-requires c κs = omega (arith, c .before .before .before .before .before .before .before .pre .4 .few, c .before .before .before .before .loop .inv .0, c .before .before .before .loop-test .taken)
+pack-requires : tie.Need-pack-requires Inv-loop μ-loop
+pack-requires c κs = omega (arith, c .before .before .before .before .before .before .before .pre .4 .few, c .before .before .before .before .loop .inv .0, c .before .before .before .loop-test .taken)
 
 mul-rules : tie.Need-mul-rules Inv-loop μ-loop
 mul-rules c = omega (arith, column-below (c .before .before .before .before .before .before .before .before .pre .4) (c .before .before .before .before .before .before .before .before .args .cmdims .now) (c .before .before .before .before .before .loop .inv .1 (c .before .before .before .before .before .before .before .before .pre .0) (c .before .before .before .before .before .before .before .before .pre .1) (c .before .before .before .before .before .before .before .before .pre .2) (c .before .before .before .before .before .before .before .before .pre .3) (c .before .before .before .before .before .before .before .before .pre .4)) (c .before .before .before .before .before .loop .inv .0) (c .before .before .before .before .before .loop .k - 1) (omega (arith, c .before .before .before .before .loop-test .taken)) refl)
@@ -46,7 +46,7 @@ loop-less : tie.Need-loop-less Inv-loop μ-loop
 loop-less c = omega (arith, c .before .before .before .before .before .before .before .before .pre .4 .few, c .before .before .before .before .before .loop .inv .0, c .before .before .before .before .loop-test .taken)
 
 loop-again : tie.Need-loop-again Inv-loop μ-loop
-loop-again c = (omega (arith, c .before .before .before .before .before .loop .inv .0), λ l n m rank a. rules-next a (c .before .before .before .before .before .before .before .before .args .cmdims .now) (c .before .before .before .before .before .loop .inv .1 l n m rank a) (c .before .before .before .before .before .loop .inv .0) (c .before .before .before .before .before .loop .k - 1) (omega (arith, c .before .before .before .before .loop-test .taken)) refl (c .before .get-exp-dim .ensures l n m rank (column-asks a (c .before .before .before .before .before .before .before .before .args .cmdims .now) (c .before .before .before .before .before .loop .inv .1 l n m rank a) (c .before .before .before .before .before .loop .inv .0) (c .before .before .before .before .before .loop .k - 1) (omega (arith, c .before .before .before .before .loop-test .taken)) refl)) (c .rule-word .ensures))
+loop-again c = (omega (arith, c .before .before .before .before .before .loop .inv .0), λ l n m rank a. rules-next a (c .before .before .before .before .before .before .before .before .args .cmdims .now) (c .before .before .before .before .before .loop .inv .1 l n m rank a) (c .before .before .before .before .before .loop .inv .0) (c .before .before .before .before .before .loop .k - 1) (omega (arith, c .before .before .before .before .loop-test .taken)) refl (c .before .get-exp-dim .ensures l n m rank (column-asks a (c .before .before .before .before .before .before .before .before .args .cmdims .now) (c .before .before .before .before .before .loop .inv .1 l n m rank a) (c .before .before .before .before .before .loop .inv .0) (c .before .before .before .before .before .loop .k - 1) (omega (arith, c .before .before .before .before .loop-test .taken)) refl)) (c .pack .ensures))
 
 returns : tie.Need-returns Inv-loop μ-loop
 returns c = λ l n m rank a. rules-all a (c .before .before .before .before .args .cmdims .now) (c .before .loop .inv .1 l n m rank a) (c .before .loop .inv .0) (omega (arith, c .loop-test .left))
@@ -63,7 +63,7 @@ fill-columns-spec =
     element-copy-out-e
     cast-e
     get-exp-dim-requires
-    rule-word-requires
+    pack-requires
     mul-rules
     element-write-rules
     loop-less

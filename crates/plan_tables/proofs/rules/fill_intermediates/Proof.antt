@@ -6,14 +6,14 @@ use native.Mathlib.Omega.{arith}
 use Rattle.kinds.specs.KindBytes as kind
 use Rattle.plans.specs.Plan.{imCount, imCm}
 use Rattle.plans.specs.Places.{at-same}
-use Rattle.plan_tables.specs.Tables.{ofIm, ruleWord}
+use Rattle.plan_tables.specs.Tables.{ofIm, packed}
 use Rattle.plan_tables.specs.Cells.{Cells, ImsAsks}
 use Rattle.plan_tables.proofs.Filled.{ims-below, ims-next, ims-all}
 use Rattle.plan_tables.proofs.rules.fill_intermediates.Statement.{statement}
 use Rattle.plan_tables.proofs.rules.fill_intermediates.Tie as tie
 
 abbrev Inv-loop : tie.InvT-loop
-Inv-loop plan rules₀ count at i₀ rules i = (i ≤ imCount plan) × ((n : ℕ) (g : ℕ → ℕ) (before : List ℕ) → ImsAsks plan n g before rules₀ → Cells n (λ x. ofIm plan (λ j. ruleWord kind.cm (imCm plan j) 0) x i (g x)) before rules)
+Inv-loop plan rules₀ count at i₀ rules i = (i ≤ imCount plan) × ((n : ℕ) (g : ℕ → ℕ) (before : List ℕ) → ImsAsks plan n g before rules₀ → Cells n (λ x. ofIm plan (λ j. packed kind.cm (imCm plan j) 0) x i (g x)) before rules)
 
 abbrev μ-loop : tie.MeasureT-loop
 μ-loop plan rules₀ count at i₀ rules i = count - i
@@ -48,14 +48,14 @@ add-number-at-3 c = omega (arith, c .before .before .before .before .before .bef
 number-at-requires-2 : tie.Need-number-at-requires-2 Inv-loop μ-loop
 number-at-requires-2 c κs = omega (arith, c .before .before .before .before .before .before .pre .0 .0, c .before .before .before .before .before .before .pre .0 .1, c .before .before .before .before .im-count .ensures .is, c .before .before .before .before .im-count .ensures .low, c .before .before .before .im-at .ensures .is, c .before .before .before .im-at .ensures .low, c .before .loop-test .taken)
 
-rule-word-requires : tie.Need-rule-word-requires Inv-loop μ-loop
-rule-word-requires c κs = c .number-at2 .ensures .low
+pack-requires : tie.Need-pack-requires Inv-loop μ-loop
+pack-requires c κs = c .number-at2 .ensures .low
 
 mul-rules : tie.Need-mul-rules Inv-loop μ-loop
-mul-rules c = omega (arith, ims-below (c .before .before .before .before .before .before .before .before .args .plan .now) (λ j. ruleWord kind.cm (imCm (c .before .before .before .before .before .before .before .before .args .plan .now) j) 0) (c .before .before .before .before .before .before .before .before .pre .1 .3) (c .before .before .before .before .loop .i) (omega (arith, c .before .before .before .loop-test .taken, c .before .before .before .before .before .before .im-count .ensures .is)) (at-same (c .before .before .before .before .before .before .before .before .args .plan .now) _ (c .before .before .number-at .ensures) (omega (arith, c .before .before .before .before .before .im-at .ensures .is))))
+mul-rules c = omega (arith, ims-below (c .before .before .before .before .before .before .before .before .args .plan .now) (λ j. packed kind.cm (imCm (c .before .before .before .before .before .before .before .before .args .plan .now) j) 0) (c .before .before .before .before .before .before .before .before .pre .1 .3) (c .before .before .before .before .loop .i) (omega (arith, c .before .before .before .loop-test .taken, c .before .before .before .before .before .before .im-count .ensures .is)) (at-same (c .before .before .before .before .before .before .before .before .args .plan .now) _ (c .before .before .number-at .ensures) (omega (arith, c .before .before .before .before .before .im-at .ensures .is))))
 
 element-write-rules : tie.Need-element-write-rules Inv-loop μ-loop
-element-write-rules c = ims-below (c .before .before .before .before .before .before .before .before .args .plan .now) (λ j. ruleWord kind.cm (imCm (c .before .before .before .before .before .before .before .before .args .plan .now) j) 0) (c .before .before .before .before .before .before .before .before .pre .1 .3) (c .before .before .before .before .loop .i) (omega (arith, c .before .before .before .loop-test .taken, c .before .before .before .before .before .before .im-count .ensures .is)) (at-same (c .before .before .before .before .before .before .before .before .args .plan .now) _ (c .before .before .number-at .ensures) (omega (arith, c .before .before .before .before .before .im-at .ensures .is)))
+element-write-rules c = ims-below (c .before .before .before .before .before .before .before .before .args .plan .now) (λ j. packed kind.cm (imCm (c .before .before .before .before .before .before .before .before .args .plan .now) j) 0) (c .before .before .before .before .before .before .before .before .pre .1 .3) (c .before .before .before .before .loop .i) (omega (arith, c .before .before .before .loop-test .taken, c .before .before .before .before .before .before .im-count .ensures .is)) (at-same (c .before .before .before .before .before .before .before .before .args .plan .now) _ (c .before .before .number-at .ensures) (omega (arith, c .before .before .before .before .before .im-at .ensures .is)))
 
 add-i : tie.Need-add-i Inv-loop μ-loop
 add-i c = omega (arith, c .before .before .before .loop-test .taken)
@@ -64,10 +64,10 @@ loop-less : tie.Need-loop-less Inv-loop μ-loop
 loop-less c = omega (arith, c .before .before .before .loop-test .taken)
 
 loop-again : tie.Need-loop-again Inv-loop μ-loop
-loop-again c = (omega (arith, c .before .before .before .loop-test .taken, c .before .before .before .before .before .before .im-count .ensures .is), λ n g before a. ims-next (c .before .before .before .before .before .before .before .before .args .plan .now) (λ j. ruleWord kind.cm (imCm (c .before .before .before .before .before .before .before .before .args .plan .now) j) 0) a (c .before .before .before .before .loop .i) (omega (arith, c .before .before .before .loop-test .taken, c .before .before .before .before .before .before .im-count .ensures .is)) (at-same (c .before .before .before .before .before .before .before .before .args .plan .now) _ (c .before .before .number-at .ensures) (omega (arith, c .before .before .before .before .before .im-at .ensures .is))) (c .rule-word .ensures ∙ ap (λ z. ruleWord kind.cm z 0) (at-same (c .before .before .before .before .before .before .before .before .args .plan .now) _ (c .before .number-at2 .ensures) (omega (arith, c .before .before .before .before .before .im-at .ensures .is)))) (c .before .before .before .before .loop .inv .1 n g before a))
+loop-again c = (omega (arith, c .before .before .before .loop-test .taken, c .before .before .before .before .before .before .im-count .ensures .is), λ n g before a. ims-next (c .before .before .before .before .before .before .before .before .args .plan .now) (λ j. packed kind.cm (imCm (c .before .before .before .before .before .before .before .before .args .plan .now) j) 0) a (c .before .before .before .before .loop .i) (omega (arith, c .before .before .before .loop-test .taken, c .before .before .before .before .before .before .im-count .ensures .is)) (at-same (c .before .before .before .before .before .before .before .before .args .plan .now) _ (c .before .before .number-at .ensures) (omega (arith, c .before .before .before .before .before .im-at .ensures .is))) (c .pack .ensures ∙ ap (λ z. packed kind.cm z 0) (at-same (c .before .before .before .before .before .before .before .before .args .plan .now) _ (c .before .number-at2 .ensures) (omega (arith, c .before .before .before .before .before .im-at .ensures .is)))) (c .before .before .before .before .loop .inv .1 n g before a))
 
 returns : tie.Need-returns Inv-loop μ-loop
-returns c = λ n g before a. ims-all (c .before .before .before .before .before .args .plan .now) (λ j. ruleWord kind.cm (imCm (c .before .before .before .before .before .args .plan .now) j) 0) a (c .before .loop .i) (omega (arith, c .loop-test .left, c .before .loop .inv .0, c .before .before .before .im-count .ensures .is)) (c .before .loop .inv .1 n g before a)
+returns c = λ n g before a. ims-all (c .before .before .before .before .before .args .plan .now) (λ j. packed kind.cm (imCm (c .before .before .before .before .before .args .plan .now) j) 0) a (c .before .loop .i) (omega (arith, c .loop-test .left, c .before .loop .inv .0, c .before .before .before .im-count .ensures .is)) (c .before .loop .inv .1 n g before a)
 
 pub fill-intermediates-spec : {M : Type 1} → statement M
 fill-intermediates-spec =
@@ -85,7 +85,7 @@ fill-intermediates-spec =
     add-number-at-2
     add-number-at-3
     number-at-requires-2
-    rule-word-requires
+    pack-requires
     mul-rules
     element-write-rules
     add-i
