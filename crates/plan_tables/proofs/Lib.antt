@@ -3,6 +3,8 @@ pub mod Sectioned
 pub mod Summed
 pub mod Growing
 pub mod Filled
+pub mod Named
 pub mod Ruled
 pub mod Copied
 pub mod Treed
+pub mod Placed

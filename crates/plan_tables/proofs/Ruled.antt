@@ -3,10 +3,9 @@ use Prim.Native.Nat.{ℕ, suc, _+_, _<_, _≤_}
 use mathlib.Core.Path.{_≡_, refl, sym, _∙_, ap, subst}
 use mathlib.Core.Bool.{Bool, true, false, cond}
 use mathlib.Core.List.{List, []}
-use mathlib.Core.Logic.{_⊎_, inl, inr}
+use mathlib.Core.Logic.{inl}
 use native.Mathlib.Omega.{arith}
-use lib.ListN.{length, getD, set, take, replicate, length-take, length-replicate, getD-replicate}
-use lib.Seq.{getD-take}
+use lib.ListN.{length, getD, set, take, replicate, length-replicate, getD-replicate}
 use Rattle.kinds.specs.KindBytes as kind
 use Rattle.kinds.specs.Write.{write}
 use Rattle.frames.specs.Order.{expressionLimit}
@@ -16,16 +15,15 @@ use Rattle.pool.specs.Admission.{Ranked}
 use Rattle.pool.specs.Ranking.{Starts}
 use Rattle.plans.specs.Plan.{q2exp, imCount, imCm}
 use Rattle.plans.specs.Columns.{recordLimit}
-use Rattle.plans.specs.ColumnLaws.{OfPairs, Named, column-of}
-use Rattle.plans.specs.Passed.{NamesThere, names-there}
+use Rattle.plans.specs.Passed.{names-there}
 use Rattle.exp_dims.specs.Dimension.{expDim}
 use Rattle.exp_dims.specs.Known.{D, Sound, World, ExpAsks, Gives}
 use Rattle.sections.specs.Sums.{each}
-use Rattle.map_records.specs.Tables.{Ready}
 use Rattle.plan_tables.specs.Tables.{ofColumn, ofIm, packed, ruleOf, rulesOf}
 use Rattle.plan_tables.specs.Cells.{Cells, ImsAsks}
 use Rattle.plan_tables.specs.Gathered.{columnsOf}
 use Rattle.plan_tables.specs.Rules.{ColumnRulesAsks, columnWord, byColumns, RulesAsks}
+use Rattle.plan_tables.proofs.Named.{columns-inside, listed-there}
 use Rattle.plan_tables.proofs.Filled.{cells-same, cells-begin, cells-all, fromColumn, columns-begin, columns-next, columns-all}
 
 -- ---- the columns' rules
@@ -67,28 +65,11 @@ module _ {t : Tables} {rank : ℕ → ℕ} {table columns : List ℕ} {count : �
     pub rules-all : k ≡ 0 → Cells (t .expressionCount) (byColumns t table dims columns count before) before rules
     rules-all e = columns-all (columnWord t table dims) (λ e. getD before e 0) columns count k e (h .cells)
 
--- ---- a plan's columns are there
-
-module _ {b : List ℕ} {t : Tables} {rank : ℕ → ℕ} (r : Ready b t rank) where
-  pub columns-there : (k : ℕ) → k < length (columnsOf b) → getD (columnsOf b) k 0 < t .expressionCount
-  columns-there k h = by (column-of b k h .0)
-    where
-      names : NamesThere b (t .expressionCount)
-      names = names-there b (t .expressionCount) (r .names)
-
-      one : {g f : ℕ → ℕ} {n e : ℕ} → ((i : ℕ) → i < n → g i < t .expressionCount) → ((i : ℕ) → i < n → f i < t .expressionCount) → OfPairs g f n e → e < t .expressionCount
-      one p q (i, l, inl z) = subst (λ y. y < t .expressionCount) z (p i l)
-      one p q (i, l, inr z) = subst (λ y. y < t .expressionCount) z (q i l)
-
-      by : {e : ℕ} → Named b e → e < t .expressionCount
-      by (inl z) = one (names .f) (names .t) z
-      by (inr z) = one (names .num) (names .den) z
-
 -- ---- all rules
 
 module _ {b : List ℕ} {t : Tables} {rank : ℕ → ℕ} {table columns : List ℕ} {count : ℕ} {rules : List ℕ} (a : RulesAsks b t rank table columns count rules) (inN : Bool) where
   inside : count ≤ length columns
-  inside = omega (arith, a .counted, ap length (a .listed), length-take count columns)
+  inside = columns-inside b columns (a .counted) (a .listed)
 
   few : count ≤ recordLimit
   few = omega (arith, a .counted, a .ready .planned .fits)
@@ -106,12 +87,9 @@ module _ {b : List ℕ} {t : Tables} {rank : ℕ → ℕ} {table columns : List 
         ranked = subst (λ z. Ranked (tabled t) z rank) (sym (a .tabling)) (a .ready .ranked);
         few = omega (arith, few);
         inside = omega (arith, inside);
-        there = λ k h. subst (λ z. z < t .expressionCount) (same k (omega (arith, h))) (columns-there (a .ready) k (omega (arith, h, a .counted)));
+        there = λ k h. listed-there b (t .expressionCount) columns (a .ready .names) (a .counted) (a .listed) k (omega (arith, h));
         full = ap length (a .cleared) ∙ length-replicate {A = ℕ} expressionLimit 0;
       }
-    where
-      same : (k : ℕ) → k < count → getD (columnsOf b) k 0 ≡ getD columns k 0
-      same k h = ap (λ (z : List ℕ). getD z k 0) (sym (a .listed)) ∙ getD-take count columns k 0 h
 
   module _ (dims : List ℕ) {used : ℕ} (e : used ≡ cond inN count 0) where
     pub ims-ask : {rules₁ : List ℕ} → Cells (t .expressionCount) (byColumns t table dims columns used rules) rules rules₁ → ImsAsks b (t .expressionCount) (byColumns t table dims columns used rules) rules rules₁

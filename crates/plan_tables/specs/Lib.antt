@@ -5,3 +5,4 @@ pub mod Bounds
 pub mod Gathered
 pub mod Cells
 pub mod Rules
+pub mod Records

@@ -85,18 +85,21 @@ rules inN p b m = rulesOf b p (m .cmDims) (m .columns) inN
 abbrev pub noRecord : ℕ
 noRecord = 0xffff
 
-module _ (b cms temporaries columns : List ℕ) where
-  -- the cm of intermediate i, by its place among those of the plan
-  abbrev pub imPlace : ℕ → ℕ
-  imPlace i = cm1 b + cm2 b + productCount b + i
+-- the cm of intermediate i, by its place among those of the plan
+abbrev pub imPlace : List ℕ → ℕ → ℕ
+imPlace b i = cm1 b + cm2 b + productCount b + i
 
-  -- THE RECORD OF AN EXPRESSION in the domain "n": of its intermediate's cm, or of its temporary column
+-- THE RECORD OF AN EXPRESSION in the domain "n", by cm_n and the records of the temporary columns: of its intermediate's cm, or of its column
+module _ (b cms temporaries columns : List ℕ) where
   abbrev pub recordOf : ℕ → ℕ
-  recordOf e = ofIm b (λ i. getD cms (imPlace i) 0) e (imCount b) (ofColumn (λ k. getD temporaries k 0) e 0 columns noRecord)
+  recordOf e = ofIm b (λ i. getD cms (imPlace b i) 0) e (imCount b) (ofColumn (λ k. getD temporaries k 0) e 0 columns noRecord)
+
+  abbrev pub recordsOf : ℕ → List ℕ
+  recordsOf n = each recordOf n
 
 -- exp2pol, for as many expressions
 abbrev pub exp2pol : List ℕ → Mapping → ℕ → List ℕ
-exp2pol b m n = each (recordOf b (cmN m) (columnRecords m) (m .columns)) n
+exp2pol b m n = recordsOf b (cmN m) (columnRecords m) (m .columns) n
 
 -- ── offsets ──────────────────────────────────────────────────────────────────
 -- the rows of a section: 2^nBits in the domain "n", 2^nBitsExt in the other
