@@ -24,7 +24,7 @@ use Rattle.plans.specs.Plan.{Whole, q2expCount, isPlan}
 use Rattle.plans.specs.Columns.{fits}
 use Rattle.plans.specs.Passed.{plan-whole, few-records}
 use Rattle.map_records.specs.Mapping.{Mapping, mapped}
-use Rattle.planning.specs.Laws.Argued.{no-plan, too-many, ill-formed, well-formed, refused-both}
+use Rattle.planning.specs.Laws.Argued.{no-plan, too-many, ill-formed, well-formed, refused-both, unplanned-then}
 use Rattle.planning.specs.Planning.{argued, Verdict, columned, Planned, planned, Judged, Plans}
 use Rattle.planning.specs.Answers.{unplannedSays, Fitting, ReadAsked, PoolAsked, PoolGiven, Ruled, Tells, Told, Argued, ReadGiven, FramesAsked, FramesGiven}
 use Rattle.planning.specs.declared.answer.Unplanned.{Unplanned}
@@ -80,23 +80,10 @@ module _ (b : List ℕ) (own : Bool) (t : Tables) {table ss ds cs : List ℕ} wh
               both (done u) = refl
               both (refused k o) = refl
 
-              stays : (u : Unplanned) → onward (unplannedSays u) ≡ unplannedSays u
-              stays (why.Malformed b) = refl
-              stays (why.Limit b) = refl
-              stays why.IllFormed = refl
-              stays why.TooManyRecords = refl
-              stays (why.ChildCount i) = refl
-              stays (why.NotThere i) = refl
-              stays why.Lost = refl
-              stays (why.Cycle i) = refl
-              stays why.BitCounts = refl
-              stays why.CountsDisagree = refl
-              stays why.NoDimension = refl
-
               lifted :
                   (r : Planning) (v : Answer (Unit {0})) → Tells b t table ss ds cs (mapped b (tabled t)) (v then λ _. columned b (tabled t)) r
                   → Told b t table ss ds cs (v then λ _. columned b (tabled t) then λ m. done (planned (tabled t) m)) r
-              lifted (planning.Refused u) v z = sym (both v) ∙ ap onward z ∙ stays u
+              lifted (planning.Refused u) v z = sym (both v) ∙ ap onward z ∙ unplanned-then u (λ m. done (planned (tabled t) m))
               lifted (planning.Planned k) v z = (sym (both v) ∙ ap onward (z .0), z .1)
 
 pub pool-asked : {b : List ℕ} {c : Counts} {table ss ds cs : List ℕ} → Fitting b → ReadAsked c table ss ds cs → PoolAsked b c table ss ds cs

@@ -1,0 +1,4 @@
+-- The definitions that the contracts cite, and the theorems on them.
+pub mod Walks
+pub mod Standing
+pub mod Fix

@@ -1,0 +1,146 @@
+// `fix_prover_code` by a plan: the segment's three lists, for the domain "n" or "2ns".
+use crate::walk::DOMAIN_N;
+use crate::walk::Walk;
+use crate::walk::is_segment;
+use fixing::fix_prover_code::Fixed;
+use fixing::fix_prover_code::fix_prover_code;
+use frames::count::EXPRESSION_LIMIT;
+use frames::tables::NODE_WORDS;
+use map_records::rest::CM_LIMIT;
+use plan_tables::columns::column_expressions;
+use plan_tables::numbers::record_numbers;
+use plan_tables::rules::fill_rules;
+use planning::answer::Planning;
+use planning::frames_plan::plan_frames;
+use plans::count::NUMBER_LIMIT;
+use plans::layout::q2exp_count;
+use sections::map_section::RECORD_LIMIT;
+use sections::section::Section;
+ghost use Rattle.plan_walks.specs.Fix.{CmsAsked, CmsGiven, RulesGiven, PlannedAsked, FixAsked, FixGiven, FixIs};
+
+// The record of each cm number in a domain; answers how many.
+fn fill_cms(
+    in_n: bool,
+    sections: &[u16; RECORD_LIMIT],
+    records: usize,
+    cms: &mut [u16; RECORD_LIMIT],
+) -> usize
+    requires { ⌜ CmsAsked (now sections) records ⌝ }
+    ensures { λ r. ⌜ CmsGiven «in_n» (now (sections .entry)) records (now (cms .entry)) (now (cms .exit)) r ⌝ }
+{
+    if in_n {
+        return record_numbers(sections, records, Section::CM1_N, Section::CM4_N, cms);
+    }
+    record_numbers(sections, records, Section::CM1_2NS, Section::CM4_2NS, cms)
+}
+
+fn fill_plan_rules(
+    in_n: bool,
+    plan: &[u8],
+    nodes: &[u64; NODE_WORDS],
+    expressions: &[u64; EXPRESSION_LIMIT],
+    table: &[u64],
+    cmdims: &[u16],
+    rules: &mut [u64; EXPRESSION_LIMIT],
+)
+    requires { ⌜ PlannedAsked (now plan) (now nodes) (now expressions) (now table) (now cmdims) (now rules) ⌝ }
+    ensures { λ _. ⌜ RulesGiven «in_n» (now (plan .entry)) (now (nodes .entry)) (now (expressions .entry)) (now (table .entry)) (now (cmdims .entry)) (now (rules .exit)) ⌝ }
+{
+    let mut columns = [0u16; RECORD_LIMIT];
+    let count = column_expressions(plan, &mut columns);
+    let q = q2exp_count(plan);
+    fill_rules(
+        in_n,
+        plan,
+        nodes,
+        expressions,
+        &table[..q],
+        cmdims,
+        &columns,
+        count,
+        rules,
+    );
+}
+
+// A plan that stands in tables.
+fn fix_planned(
+    in_n: bool,
+    plan: &[u8],
+    nodes: &[u64; NODE_WORDS],
+    expressions: &[u64; EXPRESSION_LIMIT],
+    table: &[u64],
+    sections: &[u16; RECORD_LIMIT],
+    cmdims: &[u16],
+    records: usize,
+    counter: usize,
+    first: &mut [u8],
+    i: &mut [u8],
+    last: &mut [u8],
+) -> Walk
+    requires { ⌜ FixAsked (now plan) (now nodes) (now expressions) (now table) (now sections) (now cmdims) records ⌝ }
+    ensures { λ r. ⌜ FixGiven «in_n» (now (plan .entry)) (now (nodes .entry)) (now (expressions .entry)) (now (table .entry)) (now (sections .entry)) (now (cmdims .entry)) records counter (now (first .entry)) (now (i .entry)) (now (last .entry)) (now (first .exit)) (now (i .exit)) (now (last .exit)) r ⌝ }
+{
+    let mut rules = [0u64; EXPRESSION_LIMIT];
+    fill_plan_rules(in_n, plan, nodes, expressions, table, cmdims, &mut rules);
+    let mut cms = [0u16; RECORD_LIMIT];
+    let n = fill_cms(in_n, sections, records, &mut cms);
+    match fix_prover_code(&rules, &cms[..n], counter, first, i, last) {
+        Fixed::Malformed => Walk::Malformed,
+        Fixed::NotThere => Walk::NotThere,
+        Fixed::NoRule => Walk::NoRule,
+        Fixed::Full => Walk::Full,
+        Fixed::Done(k) => Walk::Done(k),
+    }
+}
+
+// Frames, each behind its length, a plan's record, and a segment: its counter and its three lists, whose references are fixed in place. On a refusal none of
+// them has changed.
+pub fn fix(
+    s: &[u8],
+    plan: &[u8],
+    domain: u8,
+    counter: usize,
+    first: &mut [u8],
+    i: &mut [u8],
+    last: &mut [u8],
+) -> Walk
+    ensures { λ r. ⌜ FixIs (now (s .entry)) (now (plan .entry)) domain counter (now (first .entry)) (now (i .entry)) (now (last .entry)) (now (first .exit)) (now (i .exit)) (now (last .exit)) r ⌝ }
+{
+    let well_formed = is_segment(domain, counter, first, i, last);
+    let in_n = domain == DOMAIN_N;
+    let mut nodes = [0u64; NODE_WORDS];
+    let mut expressions = [0u64; EXPRESSION_LIMIT];
+    let mut table = [0u64; NUMBER_LIMIT];
+    let mut sections = [0u16; RECORD_LIMIT];
+    let mut dims = [0u16; RECORD_LIMIT];
+    let mut cmdims = [0u16; CM_LIMIT];
+    match plan_frames(
+        s,
+        plan,
+        well_formed,
+        &mut nodes,
+        &mut expressions,
+        &mut table,
+        &mut sections,
+        &mut dims,
+        &mut cmdims,
+    ) {
+        Planning::Refused(u) => Walk::Unplanned(u),
+        Planning::Planned(k) => {
+            fix_planned(
+                in_n,
+                plan,
+                &nodes,
+                &expressions,
+                &table,
+                &sections,
+                &cmdims,
+                k.records,
+                counter,
+                first,
+                i,
+                last,
+            )
+        }
+    }
+}

@@ -1,0 +1,3 @@
+// The walks over a segment's lists by a plan: from frames and a plan's record to lists that are fixed, made ready for queries, or have their dimensions.
+pub mod fix;
+pub mod walk;
