@@ -1,0 +1,201 @@
+//! `generate_constraint_polynomial` as a whole, asked of the original.
+
+use crate::contexts;
+use crate::question::{listed, Refused};
+use crate::refusals::{COUNTS, DOUBLE_PRIME, FULL};
+use crate::search::{ask_search, caught, Found, Search};
+use judge::answer::{State, StepBytes};
+use judge::hex;
+use judge::kinds::Kind;
+use judge::literal::Literal;
+use judge::pool::{Node, MAX_EXPRESSIONS, MAX_NODES};
+use judge::script::Command;
+use original::constant::set_vc;
+use original::starkinfo::{Program, StarkInfo};
+use original::starkinfo_codegen as code;
+use original::types::{Expression, PIL};
+use std::fmt;
+
+#[derive(Clone, Debug, PartialEq, Eq)]
+pub struct Constraint {
+    pub search: Search,
+    pub n_cm1: u16,
+    pub n_cm2: u16,
+    /// nCommitments before.
+    pub commitments: u16,
+    /// The number of the challenge "vc".
+    pub vc: u16,
+    /// What was done to the caller's context before, and to the second one.
+    pub first: Vec<Command>,
+    pub second: Vec<Command>,
+}
+
+/// The lists of a segment, its counter, and the marks of its context after the build.
+#[derive(Clone, Debug, PartialEq, Eq)]
+pub struct Built {
+    pub first: Vec<StepBytes>,
+    pub i: Vec<StepBytes>,
+    pub last: Vec<StepBytes>,
+    pub state: State,
+}
+
+#[derive(Clone, Debug, PartialEq, Eq)]
+pub struct Made {
+    pub found: Found,
+    /// Expression and cm number of each intermediate, in the original's order.
+    pub intermediates: Vec<(usize, usize)>,
+    /// The number of the constraint expression.
+    pub c_exp: usize,
+    /// Its nodes, children first and left before right, numbered after those of the pool.
+    pub nodes: Vec<Node>,
+    pub n_cm3: usize,
+    pub n_cm4: usize,
+    pub qs: Vec<usize>,
+    /// nCommitments after.
+    pub commitments: usize,
+    pub step3: Built,
+    pub step42ns: Built,
+}
+
+/// Asks the original: the search's refusals, then 11, then generation's, and at the end 9. Call it on a
+/// large stack.
+pub fn ask_constraint(constraint: &Constraint) -> Result<Made, Refused> {
+    let found = ask_search(&constraint.search)?;
+    let Constraint { n_cm1, n_cm2, commitments, .. } = *constraint;
+    if u32::from(commitments) < u32::from(n_cm1) + u32::from(n_cm2) {
+        return Err(Refused::With(COUNTS));
+    }
+    let made = run(constraint, found)?;
+    let nodes = constraint.search.pool.nodes().len() + made.nodes.len();
+    let is_full = nodes > MAX_NODES || made.c_exp == MAX_EXPRESSIONS;
+    if is_full || made.commitments > usize::from(u16::MAX) + 1 {
+        return Err(Refused::With(FULL));
+    }
+    Ok(made)
+}
+
+fn run(constraint: &Constraint, found: Found) -> Result<Made, Refused> {
+    set_vc(constraint.vc.into());
+    let mut pil = PIL { nCommitments: constraint.commitments.into(), ..constraint.search.pil() };
+    let mut info = StarkInfo {
+        n_cm1: constraint.n_cm1.into(),
+        n_cm2: constraint.n_cm2.into(),
+        ..StarkInfo::default()
+    };
+    let context = |pil: &mut PIL, commands| contexts::after(pil, commands).map_err(Refused::Not);
+    let mut first = context(&mut pil, &constraint.first)?;
+    let mut second = context(&mut pil, &constraint.second)?;
+    let mut program = Program::default();
+    let rows = constraint.search.rows();
+    caught(|| {
+        info.generate_constraint_polynomial(&mut first, &mut second, &mut pil, &rows, &mut program)
+    })
+    .map_err(|text| Refused::Not(format!("the original panics: {}", text)))?
+    .map_err(|error| refusal(&error.to_string()))?;
+    let count = pil.expressions.len();
+    let built = |segment: &code::Segment, context: &code::Context| {
+        built(segment, contexts::state(context, count)).map_err(Refused::Not)
+    };
+    let (step3, step42ns) = (built(&program.step3, &first)?, built(&program.step42ns, &second)?);
+    let before = constraint.search.pool.nodes().len();
+    let nodes = nodes(&pil.expressions[info.c_exp], before).map_err(Refused::Not)?;
+    agree(&info, &found, count)?;
+    Ok(Made {
+        intermediates: info.im_exps_list.iter().map(|e| (*e, info.im_exp2cm[e])).collect(),
+        found,
+        c_exp: info.c_exp,
+        nodes,
+        n_cm3: info.n_cm3,
+        n_cm4: info.n_cm4,
+        qs: info.qs,
+        commitments: pil.nCommitments,
+        step3,
+        step42ns,
+    })
+}
+
+/// The original has three spellings of it.
+fn refusal(error: &str) -> Refused {
+    if error.eq_ignore_ascii_case("double prime") {
+        return Refused::With(DOUBLE_PRIME);
+    }
+    Refused::Not(format!("the original says {}", error))
+}
+
+/// The constraint is made with what the search found, and is the last expression.
+fn agree(info: &StarkInfo, found: &Found, expressions: usize) -> Result<(), Refused> {
+    let agrees = info.im_exps_list == found.set
+        && (info.q_deg, info.c_exp + 1) == (found.q, expressions)
+        && info.im_exp2cm.len() == found.set.len();
+    if !agrees {
+        return Err(Refused::Not("the constraint is made with another set".to_string()));
+    }
+    Ok(())
+}
+
+fn built(segment: &code::Segment, state: State) -> Result<Built, String> {
+    if segment.tmp_used != state.counter {
+        return Err("the original's build moved its counter".to_string());
+    }
+    let encoded = |list: &[code::Section]| -> Result<Vec<StepBytes>, String> {
+        list.iter().map(StepBytes::of).collect()
+    };
+    let (first, i, last) =
+        (encoded(&segment.first)?, encoded(&segment.i)?, encoded(&segment.last)?);
+    Ok(Built { first, i, last, state })
+}
+
+/// The nodes of an expression, numbered from `start`.
+fn nodes(expression: &Expression, start: usize) -> Result<Vec<Node>, String> {
+    let mut nodes = Vec::new();
+    push(expression, start, &mut nodes)?;
+    Ok(nodes)
+}
+
+fn push(expression: &Expression, start: usize, nodes: &mut Vec<Node>) -> Result<u16, String> {
+    let fault = || format!("document 01 has no frame for the original's {:?}", expression);
+    let kind = Kind::all().find(|kind| kind.word() == expression.op).ok_or_else(fault)?;
+    let values = expression.values.as_deref().unwrap_or(&[]);
+    let children: Vec<u16> =
+        values.iter().map(|child| push(child, start, nodes)).collect::<Result<_, _>>()?;
+    let literal = match (&expression.value, expression.const_) {
+        (Some(text), None) => Some(Literal::from_decimal(text).ok_or_else(fault)?),
+        (None, Some(value)) => Some(value.into()),
+        (None, None) => None,
+        (Some(_), Some(_)) => return Err(fault()),
+    };
+    let id = u16::try_from(expression.id.unwrap_or(0)).map_err(|_| fault())?;
+    if !kind.is_node() || literal.is_some() != kind.has_literal() {
+        return Err(fault());
+    }
+    nodes.push(Node { kind, next: expression.next(), id, children, literal });
+    // A number past 16 bits is past the pool's limit, which is found later.
+    Ok((start + nodes.len() - 1) as u16)
+}
+
+impl fmt::Display for Made {
+    fn fmt(&self, f: &mut fmt::Formatter<'_>) -> fmt::Result {
+        self.found.fmt(f)?;
+        let pairs: Vec<String> =
+            self.intermediates.iter().map(|(e, cm)| format!("{}:{}", e, cm)).collect();
+        writeln!(f, "im {}", listed(&pairs))?;
+        writeln!(f, "c_exp {}", self.c_exp)?;
+        for node in &self.nodes {
+            writeln!(f, "node {}", hex::encode(&node.frame()))?;
+        }
+        writeln!(f, "columns {} {} {}", self.n_cm3, self.n_cm4, self.commitments)?;
+        writeln!(f, "qs {}", listed(&self.qs))?;
+        write_built(f, "step3", &self.step3)?;
+        write_built(f, "step42ns", &self.step42ns)
+    }
+}
+
+fn write_built(f: &mut fmt::Formatter<'_>, name: &str, built: &Built) -> fmt::Result {
+    for (list, steps) in [("first", &built.first), ("i", &built.i), ("last", &built.last)] {
+        steps.iter().try_for_each(|step| writeln!(f, "{} {} {}", name, list, step))?;
+    }
+    for line in built.state.to_string().lines() {
+        writeln!(f, "{} {}", name, line)?;
+    }
+    Ok(())
+}
