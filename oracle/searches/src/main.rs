@@ -14,6 +14,7 @@ searches - asks the original Rust for its degree search and its constraint polyn
 
   searches check FILE          asks again for every vector of FILE and compares
   searches make                prints the vectors that vectors/searches.txt stores
+  searches random SEED COUNT   prints COUNT random searches with their answers, and a quarter as many constraints
   searches tally SEED COUNT    asks COUNT random questions, and prints how they are answered
   searches --help              prints this
 
@@ -31,6 +32,7 @@ fn main() -> ExitCode {
     let done = match words[..] {
         ["check", file] => check(file),
         ["make"] => on_large_stack(stored::text).and_then(|text| print(&text)),
+        ["random", seed, count] => print_random(seed, count),
         ["tally", seed, count] => print_tally(seed, count),
         ["--help"] | ["-h"] | ["help"] => print(HELP),
         _ => Err(format!("this is how it is asked:\n\n{}", HELP)),
@@ -64,6 +66,11 @@ fn check(file: &str) -> Result<ExitCode, String> {
     }
     print(&format!("searches: {} vectors, {} equal\n", vectors.len(), equal))?;
     Ok(if equal == vectors.len() { ExitCode::SUCCESS } else { ExitCode::from(DIFFERENT) })
+}
+
+fn print_random(seed: &str, count: &str) -> Result<ExitCode, String> {
+    let (seed, count) = (number(seed, "SEED")?, number(count, "COUNT")?);
+    on_large_stack(|| stored::random_text(seed, count)).and_then(|text| print(&text))
 }
 
 fn print_tally(seed: &str, count: &str) -> Result<ExitCode, String> {

@@ -63,35 +63,42 @@ const HEADER: &str = "\
 # 11 of a constraint comes where nCommitments is below n_cm1 + n_cm2, after the search and before generation.
 ";
 
-fn random() -> Result<Vec<Case>, String> {
-    let mut cases = Vec::new();
-    for index in 0..COUNT {
-        let question = Question::Search(random::search(SEED, index));
-        cases.push(Case::new(&format!("random-{}-{:03}", SEED, index), question));
-    }
-    for index in 0..CONSTRAINTS {
-        let question = Question::Constraint(random::constraint(SEED, index));
-        cases.push(Case::new(&format!("random-{}-{:03}-constraint", SEED, index), question));
-    }
-    let mut short = Vec::new();
-    for case in cases {
-        let length = case.question.to_string().len().max(ask(&case.question)?.to_string().len());
-        if length <= LONGEST {
-            short.push(case);
-        }
-    }
-    Ok(short)
+/// Random questions of a seed: so many searches and so many constraints.
+fn random(seed: u64, searches: u64, constraints: u64) -> Vec<Case> {
+    let name = |index: u64| format!("random-{}-{:03}", seed, index);
+    let search = |index| Case::new(&name(index), Question::Search(random::search(seed, index)));
+    let constraint = |index| {
+        let question = Question::Constraint(random::constraint(seed, index));
+        Case::new(&format!("{}-constraint", name(index)), question)
+    };
+    (0..searches).map(search).chain((0..constraints).map(constraint)).collect()
+}
+
+fn is_short(case: &Case) -> Result<bool, String> {
+    let answer = ask(&case.question)?.to_string();
+    Ok(case.question.to_string().len().max(answer.len()) <= LONGEST)
+}
+
+/// The text of these questions with their answers, each after an empty line.
+fn answered(cases: Vec<Case>) -> Result<String, String> {
+    let vectors: Result<Vec<Vector>, String> = cases.into_iter().map(Vector::of).collect();
+    Ok(vectors?.iter().map(|vector| format!("\n{}", vector)).collect())
+}
+
+/// So many random searches with their answers, and a quarter as many constraints. Call it on a large stack.
+pub fn random_text(seed: u64, count: u64) -> Result<String, String> {
+    answered(random(seed, count, count / 4))
 }
 
 /// The whole file. Call it on a large stack.
 pub fn text() -> Result<String, String> {
-    let mut text = HEADER.to_string();
-    let chosen = [surprises::documents(), surprises::surprises(), edges::edges()];
-    for case in chosen.concat().into_iter().chain(random()?) {
-        text.push('\n');
-        text.push_str(&Vector::of(case)?.to_string());
+    let mut cases = [surprises::documents(), surprises::surprises(), edges::edges()].concat();
+    for case in random(SEED, COUNT, CONSTRAINTS) {
+        if is_short(&case)? {
+            cases.push(case);
+        }
     }
-    Ok(text)
+    Ok(HEADER.to_string() + &answered(cases)?)
 }
 
 #[cfg(test)]
