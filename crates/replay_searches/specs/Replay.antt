@@ -1,16 +1,13 @@
 -- The definition of the degree search run on stored questions, and its answers as numbers, to be compared with the original's.
 -- Assumes nothing: these are definitions.
 use Prim.Native.Nat.{ℕ}
-use mathlib.Core.Bool.{Bool, true, false, _&&_}
+use mathlib.Core.Bool.{Bool, true, _&&_}
 use mathlib.Core.Option.{some}
 use mathlib.Core.List.{List, [], _∷_}
-use lib.Dec.{eqb}
 use Rattle.meaning.specs.Refusals.{number, Answer, done, refused}
-use Rattle.meaning.specs.Trees.{Expr, Expression, Forest}
+use Rattle.meaning.specs.Trees.{Forest}
+use Rattle.replay_meaning.specs.Replay.{same}
 use Rattle.search_meaning.specs.Search.{Choice, search}
-
-abbrev pub expression : Expr → Bool → Bool → Bool → Expression
-expression t keep keep2ns idQ = record { tree = t; keep = keep; keep2ns = keep2ns; idQ = idQ }
 
 -- a pool, identities, nBits, nBitsExt, the visits allowed, and the original's answer
 pub data Vector : Type 0 where
@@ -20,12 +17,6 @@ pub data Vector : Type 0 where
 abbrev numbers : Answer Choice → List ℕ
 numbers (done x) = 0 ∷ x .q ∷ x .visits ∷ x .set
 numbers (refused r n) = number r ∷ []
-
-abbrev same : List ℕ → List ℕ → Bool
-same [] [] = true
-same [] (y ∷ ys) = false
-same (x ∷ xs) [] = false
-same (x ∷ xs) (y ∷ ys) = eqb x y && same xs ys
 
 -- the number of the challenge vc, which no search looks at
 abbrev vc : ℕ

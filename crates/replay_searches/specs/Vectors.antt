@@ -4,3 +4,4 @@ pub mod Edges
 pub mod Orders
 pub mod Limits
 pub mod Random
+pub mod Constraint

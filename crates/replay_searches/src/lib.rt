@@ -3,7 +3,7 @@ ghost use mathlib.Core.Path.{_≡_};
 
 // The families of vectors.
 pub fn families() -> usize
-    ensures { λ r. ⌜ r ≡ 6 ⌝ }
+    ensures { λ r. ⌜ r ≡ 7 ⌝ }
 {
-    6
+    7
 }

@@ -16,6 +16,9 @@ use original::starkinfo_codegen as code;
 use original::types::{Expression, PIL};
 use std::fmt;
 
+/// Numbers of columns have 16 bits.
+const MAX_COLUMNS: usize = 1 << 16;
+
 #[derive(Clone, Debug, PartialEq, Eq)]
 pub struct Constraint {
     pub search: Search,
@@ -57,24 +60,37 @@ pub struct Made {
     pub step42ns: Built,
 }
 
-/// Asks the original: the search's refusals, then 11, then generation's, and at the end 9. Call it on a
-/// large stack.
+/// Asks the original. After the search's refusals come 9, where the pool with the constraint or a column's
+/// number passes its limit, then 11, then generation's. Call it on a large stack.
 pub fn ask_constraint(constraint: &Constraint) -> Result<Made, Refused> {
     let found = ask_search(&constraint.search)?;
-    let Constraint { n_cm1, n_cm2, commitments, .. } = *constraint;
+    let Constraint { n_cm1, n_cm2, commitments, ref search, .. } = *constraint;
+    let after = run(constraint)?;
+    let before = search.pool.nodes().len();
+    let c_exp = search.pool.expressions().len();
+    // The constraint is added to the pool before anything that can fail.
+    let nodes = nodes(&after.pil.expressions[c_exp], before).map_err(Refused::Not)?;
+    let columns = usize::from(commitments) + found.set.len() + found.q;
+    if before + nodes.len() > MAX_NODES || c_exp == MAX_EXPRESSIONS || columns > MAX_COLUMNS {
+        return Err(Refused::With(FULL));
+    }
     if u32::from(commitments) < u32::from(n_cm1) + u32::from(n_cm2) {
         return Err(Refused::With(COUNTS));
     }
-    let made = run(constraint, found)?;
-    let nodes = constraint.search.pool.nodes().len() + made.nodes.len();
-    let is_full = nodes > MAX_NODES || made.c_exp == MAX_EXPRESSIONS;
-    if is_full || made.commitments > usize::from(u16::MAX) + 1 {
-        return Err(Refused::With(FULL));
-    }
-    Ok(made)
+    after.made(found, nodes)
 }
 
-fn run(constraint: &Constraint, found: Found) -> Result<Made, Refused> {
+/// What the original holds after the call, which need not have come to its end.
+struct After {
+    info: StarkInfo,
+    pil: PIL,
+    first: code::Context,
+    second: code::Context,
+    program: Program,
+    end: Result<(), Refused>,
+}
+
+fn run(constraint: &Constraint) -> Result<After, Refused> {
     set_vc(constraint.vc.into());
     let mut pil = PIL { nCommitments: constraint.commitments.into(), ..constraint.search.pil() };
     let mut info = StarkInfo {
@@ -87,31 +103,37 @@ fn run(constraint: &Constraint, found: Found) -> Result<Made, Refused> {
     let mut second = context(&mut pil, &constraint.second)?;
     let mut program = Program::default();
     let rows = constraint.search.rows();
-    caught(|| {
+    let end = caught(|| {
         info.generate_constraint_polynomial(&mut first, &mut second, &mut pil, &rows, &mut program)
-    })
-    .map_err(|text| Refused::Not(format!("the original panics: {}", text)))?
-    .map_err(|error| refusal(&error.to_string()))?;
-    let count = pil.expressions.len();
-    let built = |segment: &code::Segment, context: &code::Context| {
-        built(segment, contexts::state(context, count)).map_err(Refused::Not)
-    };
-    let (step3, step42ns) = (built(&program.step3, &first)?, built(&program.step42ns, &second)?);
-    let before = constraint.search.pool.nodes().len();
-    let nodes = nodes(&pil.expressions[info.c_exp], before).map_err(Refused::Not)?;
-    agree(&info, &found, count)?;
-    Ok(Made {
-        intermediates: info.im_exps_list.iter().map(|e| (*e, info.im_exp2cm[e])).collect(),
-        found,
-        c_exp: info.c_exp,
-        nodes,
-        n_cm3: info.n_cm3,
-        n_cm4: info.n_cm4,
-        qs: info.qs,
-        commitments: pil.nCommitments,
-        step3,
-        step42ns,
-    })
+    });
+    let end = end
+        .map_err(|text| Refused::Not(format!("the original panics: {}", text)))
+        .and_then(|done| done.map_err(|error| refusal(&error.to_string())));
+    Ok(After { info, pil, first, second, program, end })
+}
+
+impl After {
+    fn made(self, found: Found, nodes: Vec<Node>) -> Result<Made, Refused> {
+        let After { info, pil, program, .. } = self;
+        self.end?;
+        let count = pil.expressions.len();
+        agree(&info, &found, count)?;
+        let built = |segment: &code::Segment, context: &code::Context| {
+            built(segment, contexts::state(context, count)).map_err(Refused::Not)
+        };
+        Ok(Made {
+            intermediates: info.im_exps_list.iter().map(|e| (*e, info.im_exp2cm[e])).collect(),
+            found,
+            c_exp: info.c_exp,
+            nodes,
+            n_cm3: info.n_cm3,
+            n_cm4: info.n_cm4,
+            qs: info.qs,
+            commitments: pil.nCommitments,
+            step3: built(&program.step3, &self.first)?,
+            step42ns: built(&program.step42ns, &self.second)?,
+        })
+    }
 }
 
 /// The original has three spellings of it.
@@ -198,4 +220,53 @@ fn write_built(f: &mut fmt::Formatter<'_>, name: &str, built: &Built) -> fmt::Re
         writeln!(f, "{} {}", name, line)?;
     }
     Ok(())
+}
+
+#[cfg(test)]
+mod tests {
+    use super::*;
+    use crate::search::fresh_context;
+    use crate::surprises::{constraint, cut, search};
+    use judge::case::{cm, neg, Tree};
+    use judge::run::on_large_stack;
+
+    fn ask(constraint: &Constraint) -> Result<Made, Refused> {
+        on_large_stack(|| Ok(ask_constraint(constraint))).unwrap()
+    }
+
+    /// A pool of so many expressions.
+    fn of_expressions(count: usize) -> Constraint {
+        constraint(search(&vec![cm(0); count], &[0], 0))
+    }
+
+    #[test]
+    fn a_pool_without_room_for_one_expression_is_full() {
+        assert!(ask(&of_expressions(MAX_EXPRESSIONS - 1)).is_ok());
+        assert_eq!(ask(&of_expressions(MAX_EXPRESSIONS)), Err(Refused::With(FULL)));
+    }
+
+    /// The constraint is one exp leaf.
+    #[test]
+    fn a_pool_without_room_for_its_nodes_is_full() {
+        let chain = |nodes| (1..nodes).fold(cm(0), |tree: Tree, _| neg(tree));
+        let of_nodes = |nodes| constraint(search(&[cm(0), chain(nodes - 1)], &[0], 0));
+        assert!(ask(&of_nodes(MAX_NODES - 1)).is_ok());
+        assert_eq!(ask(&of_nodes(MAX_NODES)), Err(Refused::With(FULL)));
+    }
+
+    /// Commands cannot make such a context.
+    #[test]
+    fn a_mark_on_the_constraint_itself_is_a_panic() {
+        let search = search(&cut(), &[1], 0);
+        let (mut info, mut pil) = (StarkInfo::default(), search.pil());
+        let (mut first, mut second) = (fresh_context(), fresh_context());
+        second.calculated.insert(("exps", pil.expressions.len()), true);
+        let (rows, mut program) = (search.rows(), Program::default());
+        let call = || {
+            let (first, second, pil) = (&mut first, &mut second, &mut pil);
+            info.generate_constraint_polynomial(first, second, pil, &rows, &mut program).is_ok()
+        };
+        let end = on_large_stack(|| Ok(caught(call)));
+        assert_eq!(end, Ok(Err("attempt to subtract with overflow".to_string())));
+    }
 }

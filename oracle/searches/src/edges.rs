@@ -172,7 +172,10 @@ fn columns() -> Vec<Case> {
     vec![
         asks_constraint("edge-11-as-many", of(4, 2, 6)),
         asks_constraint("edge-11-one-less", of(4, 3, 6)),
-        asks_constraint("edge-11-many-less", of(65535, 65535, 65535)),
+        asks_constraint("edge-11-many-less", of(65535, 65535, 6000)),
+        asks_constraint("edge-09-the-last-columns", of(3, 2, 65534)),
+        asks_constraint("edge-09-one-column-beyond", of(3, 2, 65535)),
+        asks_constraint("order-9-before-11", of(65535, 65535, 65535)),
         asks_constraint("edge-11-none", of(0, 0, 0)),
         asks_constraint("order-13-before-11", short(constraint(search(&[cube()], &[0], 0)))),
         asks_constraint("order-14-before-11", short(constraint(search(&[number(5)], &[0], 0)))),

@@ -60,7 +60,8 @@ const HEADER: &str = "\
 #   step3 counter N          temporaries used,
 #   step3 marks P Q          and the context's marks after the build, a digit for each expression, plain and primed
 #   step42ns ..              the same, with the second context
-# 11 of a constraint comes where nCommitments is below n_cm1 + n_cm2, after the search and before generation.
+# The refusals of a constraint after those of its search: 9 where the pool with it or a column's number passes
+# its limit, 11 where nCommitments is below n_cm1 + n_cm2, then the original's 5.
 ";
 
 /// Random questions of a seed: so many searches and so many constraints.

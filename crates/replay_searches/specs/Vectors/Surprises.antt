@@ -1,11 +1,12 @@
--- The 38 vectors of the family s, made by tools/searches_to_antt.py.
+-- The 38 vectors of searches of the family s, made by tools/searches_to_antt.py.
 -- Assumes nothing.
 use mathlib.Core.Path.{_≡_, refl}
 use mathlib.Core.Bool.{true, false}
 use mathlib.Core.List.{List, [], _∷_}
 use Rattle.meaning.specs.Trees.{lit, cm, const, q, public, challenge, eval, xDivXSubXi, xDivXSubWXi, plainX, add, sub, mul, addc, mulc, cell, exp, number, flat, x, leaf, bin, muladd, binc, neg}
 use Rattle.search_meaning.specs.Search.{search}
-use Rattle.replay_searches.specs.Replay.{Vector, vector, expression, agree}
+use Rattle.replay_meaning.specs.Replay.{expression}
+use Rattle.replay_searches.specs.Replay.{Vector, vector, agree}
 
 unfoldable pub vectors : List Vector
 vectors =

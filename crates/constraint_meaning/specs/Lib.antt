@@ -1,0 +1,3 @@
+-- What the constraint polynomial means.
+pub mod Tree
+pub mod Constraint
