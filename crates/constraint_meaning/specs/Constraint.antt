@@ -119,17 +119,12 @@ treeFor E nodes vc [] ms = constraintTree vc E nodes 0 [] ms
 treeFor E nodes vc (e ∷ es) ms = constraintTree vc E nodes e es ms
 
 module _ (rows : ℕ) (E : Forest) (nodes : ℕ) (first second : State) where
-  -- with what the search chose: limits of the pool (9), counts (11), then generation's refusals as they come
-  abbrev pub madeWith : Asked → Choice → Answer Made
-  madeWith a x =
+  -- with the set that was chosen and the constraint's tree: both lists, or generation's refusal
+  abbrev pub listsWith : Asked → Choice → List Intermediate → Numbered → Answer Made
+  listsWith a x ms t =
       let k = a .commitments + length (x .set) in
-      let ms = columnsFrom (a .commitments) (x .set) in
-      let t = treeFor E nodes (a .vc) (a .identities) ms in
-      let E′ = extended E (t .tree) in
-      unless Refusal.full (fits (t .free) (length E′) (k + x .q)) then λ _.
-      unless Refusal.counts (leb (a .nCm1 + a .nCm2) (a .commitments)) then λ _.
-      step3 rows E′ (x .set) first then λ s3.
-      step42ns rows E′ (x .set) (length E) second then λ s4.
+      step3 rows (extended E (t .tree)) (x .set) first then λ s3.
+      step42ns rows (extended E (t .tree)) (x .set) (length E) second then λ s4.
       done (record {
         choice = x;
         intermediates = ms;
@@ -141,6 +136,15 @@ module _ (rows : ℕ) (E : Forest) (nodes : ℕ) (first second : State) where
         step3 = s3;
         step42ns = s4;
       })
+
+  -- limits of the pool come first (9), then counts (11)
+  abbrev pub madeWith : Asked → Choice → Answer Made
+  madeWith a x =
+      let ms = columnsFrom (a .commitments) (x .set) in
+      let t = treeFor E nodes (a .vc) (a .identities) ms in
+      unless Refusal.full (fits (t .free) (length E + 1) (a .commitments + length (x .set) + x .q)) then λ _.
+      unless Refusal.counts (leb (a .nCm1 + a .nCm2) (a .commitments)) then λ _.
+      listsWith a x ms t
 
   -- THE CONSTRAINT POLYNOMIAL of a pool's expressions and its number of nodes, from the caller's context and the second one
   abbrev pub constrain : Asked → Answer Made

@@ -4,3 +4,5 @@ pub mod Constraint
 pub mod Numbers
 pub mod Ranks
 pub mod Members
+pub mod Closing
+pub mod Exactly

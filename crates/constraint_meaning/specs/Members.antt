@@ -234,3 +234,8 @@ module _ (E : Forest) (limit : Option ℕ) where
   identities-there [] vc n ext x h = tt
   identities-there (e ∷ es) vc n ext x h =
       all-below (length E) (e ∷ es) (passed Refusal.notThere (allBelow (length E) (e ∷ es)) _ (passed Refusal.bits (bitsOk n ext) _ h .1) .0)
+
+  -- and there is one
+  pub some-identity : (vc n ext : ℕ) (x : Choice) → search E [] vc n ext limit ≡ done x → ⊥
+  unfolding search
+  some-identity vc n ext x h = done-not-refused (sym h)
