@@ -62,14 +62,15 @@ def vector(name, question, answers):
 
 
 def tree_numbers(nodes, number, start):
-    """The tree at a node in prefix order, as `treeNumbers` of Constraints.antt gives it; the first node has number `start`."""
+    """The tree at a node in prefix order with the numbers of its nodes, as `treeNumbers` of Constraints.antt gives it; the first node has
+    number `start`."""
     frame = nodes[number - start]
     kind, ahead, ident, count = frame[1], frame[2], int.from_bytes(frame[3:5], "big"), frame[5]
     children = [int.from_bytes(frame[6 + 2 * k : 8 + 2 * k], "big") for k in range(count)]
     rest = frame[6 + 2 * count :]
     literal = [rest[0], int.from_bytes(rest[1:9], "big")] if rest else []
     head = [kind] if count else [(kind * 256 + (ahead if kind in WITH_NEXT else 0)) * 65536 + ident]
-    return head + literal + [n for child in children for n in tree_numbers(nodes, child, start)]
+    return [number] + head + literal + [n for child in children for n in tree_numbers(nodes, child, start)]
 
 
 def counted(items):

@@ -23,7 +23,7 @@ asked es n ext limit a b k vc =
 pub data Vector : Type 0 where
   vector : Forest → ℕ → Asked → List Command → List Command → List ℕ → Vector
 
--- ── a tree in prefix order, without the numbers of its nodes ─────────────────
+-- ── a tree in prefix order, each node after its number ───────────────────────
 abbrev opNo : Op → ℕ
 opNo Op.add = 0x01
 opNo Op.sub = 0x02
@@ -47,11 +47,11 @@ leafNumbers (Leaf.flat k i) = leafNumber (kindNo (Kind.flat k)) 0 i ∷ []
 leafNumbers (Leaf.x k) = leafNumber (kindNo (Kind.x k)) 0 0 ∷ []
 
 abbrev treeNumbers : Expr → List ℕ
-treeNumbers (Expr.leaf n l) = leafNumbers l
-treeNumbers (Expr.bin n o a b) = opNo o ∷ treeNumbers a ++ treeNumbers b
-treeNumbers (Expr.muladd n a b c) = 0x04 ∷ treeNumbers a ++ (treeNumbers b ++ treeNumbers c)
-treeNumbers (Expr.binc n o a l) = opcNo o ∷ literalNumbers l ++ treeNumbers a
-treeNumbers (Expr.neg n a) = 0x07 ∷ treeNumbers a
+treeNumbers (Expr.leaf n l) = n ∷ leafNumbers l
+treeNumbers (Expr.bin n o a b) = n ∷ opNo o ∷ treeNumbers a ++ treeNumbers b
+treeNumbers (Expr.muladd n a b c) = n ∷ 0x04 ∷ treeNumbers a ++ (treeNumbers b ++ treeNumbers c)
+treeNumbers (Expr.binc n o a l) = n ∷ opcNo o ∷ literalNumbers l ++ treeNumbers a
+treeNumbers (Expr.neg n a) = n ∷ 0x07 ∷ treeNumbers a
 
 -- ── an answer ────────────────────────────────────────────────────────────────
 abbrev memberNumbers : List Intermediate → List ℕ

@@ -49,7 +49,7 @@ pub struct Made {
     pub intermediates: Vec<(usize, usize)>,
     /// The number of the constraint expression.
     pub c_exp: usize,
-    /// Its nodes, children first and left before right, numbered after those of the pool.
+    /// Its nodes, numbered after those of the pool in the order in which it is put together.
     pub nodes: Vec<Node>,
     pub n_cm3: usize,
     pub n_cm4: usize,
@@ -69,7 +69,8 @@ pub fn ask_constraint(constraint: &Constraint) -> Result<Made, Refused> {
     let before = search.pool.nodes().len();
     let c_exp = search.pool.expressions().len();
     // The constraint is added to the pool before anything that can fail.
-    let nodes = nodes(&after.pil.expressions[c_exp], before).map_err(Refused::Not)?;
+    let sums = search.identities.len() - 1 + found.set.len();
+    let nodes = nodes(&after.pil.expressions[c_exp], sums, before).map_err(Refused::Not)?;
     let columns = usize::from(commitments) + found.set.len() + found.q;
     if before + nodes.len() > MAX_NODES || c_exp == MAX_EXPRESSIONS || columns > MAX_COLUMNS {
         return Err(Refused::With(FULL));
@@ -167,32 +168,64 @@ fn built(segment: &code::Segment, state: State) -> Result<Built, String> {
     Ok(Built { first, i, last, state })
 }
 
-/// The nodes of an expression, numbered from `start`.
-fn nodes(expression: &Expression, start: usize) -> Result<Vec<Node>, String> {
-    let mut nodes = Vec::new();
-    push(expression, start, &mut nodes)?;
-    Ok(nodes)
+/// The nodes of a constraint of so many sums vc·c + e, numbered from `start`: those of c first, then vc, the
+/// product, those of e, and the sum.
+fn nodes(constraint: &Expression, sums: usize, start: usize) -> Result<Vec<Node>, String> {
+    let mut nodes = Nodes { start, made: Vec::new() };
+    nodes.push_sums(constraint, sums)?;
+    Ok(nodes.made)
 }
 
-fn push(expression: &Expression, start: usize, nodes: &mut Vec<Node>) -> Result<u16, String> {
-    let fault = || format!("document 01 has no frame for the original's {:?}", expression);
-    let kind = Kind::all().find(|kind| kind.word() == expression.op).ok_or_else(fault)?;
-    let values = expression.values.as_deref().unwrap_or(&[]);
-    let children: Vec<u16> =
-        values.iter().map(|child| push(child, start, nodes)).collect::<Result<_, _>>()?;
-    let literal = match (&expression.value, expression.const_) {
-        (Some(text), None) => Some(Literal::from_decimal(text).ok_or_else(fault)?),
-        (None, Some(value)) => Some(value.into()),
-        (None, None) => None,
-        (Some(_), Some(_)) => return Err(fault()),
-    };
-    let id = u16::try_from(expression.id.unwrap_or(0)).map_err(|_| fault())?;
-    if !kind.is_node() || literal.is_some() != kind.has_literal() {
-        return Err(fault());
+struct Nodes {
+    start: usize,
+    made: Vec<Node>,
+}
+
+impl Nodes {
+    fn push_sums(&mut self, sum: &Expression, sums: usize) -> Result<u16, String> {
+        if sums == 0 {
+            return self.push(sum);
+        }
+        match (children(sum), children(sum).first().map(children)) {
+            ([product, e], Some([vc, c])) => {
+                let c = self.push_sums(c, sums - 1)?;
+                let vc = self.push(vc)?;
+                let product = self.push_own(product, vec![vc, c])?;
+                let e = self.push(e)?;
+                self.push_own(sum, vec![product, e])
+            }
+            _ => Err(format!("the original's constraint has no sum where one is due: {:?}", sum)),
+        }
     }
-    nodes.push(Node { kind, next: expression.next(), id, children, literal });
-    // A number past 16 bits is past the pool's limit, which is found later.
-    Ok((start + nodes.len() - 1) as u16)
+
+    /// Children first, left before right.
+    fn push(&mut self, expression: &Expression) -> Result<u16, String> {
+        let own = children(expression).iter().map(|child| self.push(child));
+        let own = own.collect::<Result<_, _>>()?;
+        self.push_own(expression, own)
+    }
+
+    fn push_own(&mut self, expression: &Expression, children: Vec<u16>) -> Result<u16, String> {
+        let fault = || format!("document 01 has no frame for the original's {:?}", expression);
+        let kind = Kind::all().find(|kind| kind.word() == expression.op).ok_or_else(fault)?;
+        let literal = match (&expression.value, expression.const_) {
+            (Some(text), None) => Some(Literal::from_decimal(text).ok_or_else(fault)?),
+            (None, Some(value)) => Some(value.into()),
+            (None, None) => None,
+            (Some(_), Some(_)) => return Err(fault()),
+        };
+        let id = u16::try_from(expression.id.unwrap_or(0)).map_err(|_| fault())?;
+        if !kind.is_node() || literal.is_some() != kind.has_literal() {
+            return Err(fault());
+        }
+        self.made.push(Node { kind, next: expression.next(), id, children, literal });
+        // A number past 16 bits is past the pool's limit, which is found later.
+        Ok((self.start + self.made.len() - 1) as u16)
+    }
+}
+
+fn children(expression: &Expression) -> &[Expression] {
+    expression.values.as_deref().unwrap_or(&[])
 }
 
 impl fmt::Display for Made {

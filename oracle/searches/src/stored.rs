@@ -51,8 +51,9 @@ const HEADER: &str = "\
 # and to a constraint these and:
 #   im E:CM ..               intermediates with their cm numbers, in order
 #   c_exp N                  the number of the constraint expression, which has no flags
-#   node HEX                 its nodes as frames, children first and left before right, numbered after those of
-#                            the pool
+#   node HEX                 its nodes as frames, numbered after those of the pool: of each sum vc.c + e those of c,
+#                            then vc, the product, those of e, and the sum; of another tree children first, left
+#                            before right
 #   columns A B N            n_cm3, n_cm4, and nCommitments after
 #   qs N ..
 #   step3 first HEX          a line for each step of the first list, i and last likewise, in document 01's output
