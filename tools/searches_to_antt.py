@@ -23,6 +23,7 @@ use mathlib.Core.Path.{_≡_, refl}
 use mathlib.Core.Bool.{true, false}
 use mathlib.Core.List.{List, [], _∷_}
 use Rattle.meaning.specs.Trees.{lit, cm, const, q, public, challenge, eval, xDivXSubXi, xDivXSubWXi, plainX, add, sub, mul, addc, mulc, cell, exp, number, flat, x, leaf, bin, muladd, binc, neg}
+use Rattle.search_meaning.specs.Degrees.{fullTable}
 use Rattle.search_meaning.specs.Search.{search}
 use Rattle.replay_meaning.specs.Replay.{expression}
 use Rattle.replay_searches.specs.Replay.{Vector, vector, agree}
@@ -110,7 +111,7 @@ def constraint(name, question, answers):
 def module(title, vectors, uses=USES):
     text = f"-- The {len(vectors)} vectors {title}, made by tools/searches_to_antt.py.\n{uses}\n"
     text += "unfoldable pub vectors : List Vector\nvectors =\n" + "".join(vectors) + "    []\n\n"
-    return text + "-- THE DEFINITIONS GIVE THE ORIGINAL'S ANSWERS\npub all-agree : agree vectors ≡ true\nunfolding search vectors\nall-agree = refl\n"
+    return text + "-- THE DEFINITIONS GIVE THE ORIGINAL'S ANSWERS\npub all-agree : agree vectors ≡ true\nunfolding search fullTable vectors\nall-agree = refl\n"
 
 
 def modules():

@@ -11,7 +11,7 @@ use borrow.Author.Tests.{ltb-true}
 use Rattle.meaning.specs.Refusals.{Refusal, Answer, done, refused}
 use Rattle.meaning.specs.Trees.{Op, Expr, Expression, Forest, nth, Each}
 use Rattle.meaning.specs.Laws.Tests.{true-false, done-not-refused, nth-below}
-use Rattle.search_meaning.specs.Degrees.{Class, classOf, full, fullOf}
+use Rattle.search_meaning.specs.Degrees.{Class, classOf, full, fullTable}
 use Rattle.search_meaning.specs.Search.{member, insert, Tally, Out, Search, next, counted, Read, Found, found, setOf, both, better, settled, free, Reads, room, visit, pair, splits, cutBody, reference, leafRule, product, rule, bodyIn, body, top, candidate, qOf, weight, keep, Choice, finishAt, finish, onward, tries, identityLeaf, foldMore, allBelow, bitsOk, unless, search}
 
 module _ (N : ℕ) where
@@ -194,7 +194,7 @@ module _ (E : Forest) (limit : Option ℕ) where
   tries-in : (c : Expr) (n d : ℕ) (kept : Found) (v : ℕ) → InFound (length E) kept → InAnswer (tries limit E c n d kept v)
   tries-in c zero d kept v h = finish-in kept v h
   tries-in c (suc n) d kept v h =
-      onward-in (candidate limit E d (fullOf E (length E)) (length E) c v) _ (candidate-in d (fullOf E (length E)) (length E) c v)
+      onward-in (candidate limit E d (fullTable E) (length E) c v) _ (candidate-in d (fullTable E) (length E) c v)
       (λ x w g. tries-in c n (d + 1) (keep kept x) w (keep-in kept x h g))
 
   unless-in : (r : Refusal) (b : Bool) (a : Answer Choice) → InAnswer a → InAnswer (unless r b a)

@@ -5,6 +5,7 @@ use mathlib.Core.Bool.{true, false}
 use mathlib.Core.Option.{none}
 use mathlib.Core.List.{List, [], _∷_}
 use Rattle.meaning.specs.Trees.{lit, cm, const, q, public, challenge, eval, xDivXSubXi, xDivXSubWXi, plainX, add, sub, mul, addc, mulc, cell, exp, number, flat, x, leaf, bin, muladd, binc, neg}
+use Rattle.search_meaning.specs.Degrees.{fullTable}
 use Rattle.search_meaning.specs.Search.{search}
 use Rattle.replay_meaning.specs.Replay.{ask, build, expression}
 use Rattle.replay_searches.specs.Constraints.{asked, Vector, vector, agree}
@@ -507,5 +508,5 @@ vectors =
 
 -- THE DEFINITIONS GIVE THE ORIGINAL'S ANSWERS
 pub all-agree : agree vectors ≡ true
-unfolding search vectors
+unfolding search fullTable vectors
 all-agree = refl

@@ -4,6 +4,7 @@ use mathlib.Core.Path.{_≡_, refl}
 use mathlib.Core.Bool.{true, false}
 use mathlib.Core.List.{List, [], _∷_}
 use Rattle.meaning.specs.Trees.{lit, cm, const, q, public, challenge, eval, xDivXSubXi, xDivXSubWXi, plainX, add, sub, mul, addc, mulc, cell, exp, number, flat, x, leaf, bin, muladd, binc, neg}
+use Rattle.search_meaning.specs.Degrees.{fullTable}
 use Rattle.search_meaning.specs.Search.{search}
 use Rattle.replay_meaning.specs.Replay.{expression}
 use Rattle.replay_searches.specs.Replay.{Vector, vector, agree}
@@ -44,5 +45,5 @@ vectors =
 
 -- THE DEFINITIONS GIVE THE ORIGINAL'S ANSWERS
 pub all-agree : agree vectors ≡ true
-unfolding search vectors
+unfolding search fullTable vectors
 all-agree = refl
