@@ -92,7 +92,7 @@ module _ (rows : ℕ) (E : Forest) (x : Expression) where
       ∙ ap (λ l. l ++ product (some d)) (ap (λ l. every old ++ l) (sym (append-nil (b .steps))) ∙ sym right)
 
   -- a request that makes it is served by that
-  served-adding :
+  pub served-adding :
       (e : ℕ) → nth E e ≡ some x → (st st′ : State) → st .marks e 0 ≡ false → serve rows E (plainRequest e) st ≡ done st′ →
       (a : Asked) × (ask rows E false e 0 (st .marks) ≡ done a) × (adding E a st ≡ st′)
   served-adding e f st st′ u h =
@@ -103,7 +103,7 @@ module _ (rows : ℕ) (E : Forest) (x : Expression) where
       (w .0, w .1, done-same _ _ (w .2) ∙ done-same _ _ (z .2))
 
 -- ── step42ns ─────────────────────────────────────────────────────────────────
-not-member : (n : ℕ) (s : List ℕ) → Each (λ e. e < n) s → member n s ≡ false
+pub not-member : (n : ℕ) (s : List ℕ) → Each (λ e. e < n) s → member n s ≡ false
 not-member n [] h = refl
 not-member n (i ∷ s) h = rw (ne-eqb n i (λ q. let b = h .0 in omega arith)) (not-member n s (h .1))
 

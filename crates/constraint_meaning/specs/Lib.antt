@@ -4,5 +4,7 @@ pub mod Constraint
 pub mod Numbers
 pub mod Ranks
 pub mod Members
+pub mod Sum
 pub mod Closing
 pub mod Exactly
+pub mod Runs

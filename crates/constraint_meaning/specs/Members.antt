@@ -134,9 +134,11 @@ module _ (N : ℕ) where
       rule-in (Expr.bin n Op.mul a b) s m k h =
           let f = rule limit fullOf body a in
           let g = rule limit fullOf body b in
-          one-in (free a) _ _ (visit-in g (rule-in b) (some s) h m k)
-          (one-in (free b) _ _ (visit-in f (rule-in a) (some s) h m k)
-          (product-in (full fullOf (Expr.bin n Op.mul a b)) f g (rule-in a) (rule-in b) s m k h))
+          let o = full fullOf (Expr.bin n Op.mul a b) in
+          one-in (free a) (visit limit g (some s) m k) (cond (free b) (visit limit f (some s) m k) (product limit fullOf body o f g s m k))
+          (visit-in g (rule-in b) (some s) h m k)
+          (one-in (free b) (visit limit f (some s) m k) (product limit fullOf body o f g s m k) (visit-in f (rule-in a) (some s) h m k)
+          (product-in o f g (rule-in a) (rule-in b) s m k h))
       rule-in (Expr.muladd n a b c) s m k h = tt
       rule-in (Expr.binc n o a l) s m k h = visit-in (rule limit fullOf body a) (rule-in a) (some s) h m k
       rule-in (Expr.neg n a) s m k h = visit-in (rule limit fullOf body a) (rule-in a) (some s) h m k
