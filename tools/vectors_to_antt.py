@@ -209,4 +209,5 @@ def main():
     print(f"{sum(map(len, by_family.values()))} vectors in {len(FAMILIES)} families")
 
 
-main()
+if __name__ == "__main__":
+    main()

@@ -1,5 +1,6 @@
 //! Finds the original's six files and writes the module list that includes them where they stand:
-//! they are compiled unchanged, and their text is never copied here.
+//! they are compiled unchanged, and their text is never copied here. The degree rule is compiled a
+//! second time with a counter in it, from a copy in the build's own folder.
 
 use std::env;
 use std::fmt::Write;
@@ -21,6 +22,20 @@ const MODULES: [&str; 6] = [
     "types",
 ];
 
+/// The file of the degree rule, where its text begins, and where its signature ends.
+const COUNTED_MODULE: &str = "starkinfo_cp_prover";
+const RULE: &str = "fn _calculate_im_pols(";
+const SIGNATURE_END: &str = ") -> (Option<HashMap<usize, bool>>, i32) {\n";
+
+/// What the rule and what follows it use, and the statement that counts.
+const COUNTED_USES: &str = "\
+use crate::types::{Expression, PIL};
+use anyhow::Result;
+use std::collections::HashMap;
+
+";
+const COUNTING: &str = "    crate::visits::count();\n";
+
 fn main() {
     println!("cargo:rerun-if-env-changed={}", SOURCE_VARIABLE);
     let source = source_folder();
@@ -30,8 +45,33 @@ fn main() {
         println!("cargo:rerun-if-changed={}", file.display());
         writeln!(list, "#[path = {:?}]\npub mod {};", file, module).expect("a string takes all");
     }
-    let target = PathBuf::from(variable("OUT_DIR")).join("modules.rs");
-    if let Err(error) = fs::write(&target, list) {
+    write_out("modules.rs", &list);
+    write_out("counted.rs", &counted(&find(&source, COUNTED_MODULE)));
+}
+
+/// The degree rule and what follows it, with one statement more at the rule's entry.
+fn counted(file: &Path) -> String {
+    let text = fs::read_to_string(file)
+        .unwrap_or_else(|error| give_up(&format!("cannot read {}: {}", file.display(), error)));
+    let rule = &text[only(&text, RULE)..];
+    let (signature, body) = rule.split_at(only(rule, SIGNATURE_END) + SIGNATURE_END.len());
+    [COUNTED_USES, signature, COUNTING, body].concat()
+}
+
+/// The one place where a piece of text stands.
+fn only(text: &str, piece: &str) -> usize {
+    let places: Vec<usize> = text.match_indices(piece).map(|(place, _)| place).collect();
+    match places[..] {
+        [place] => place,
+        _ => {
+            give_up(&format!("{:?} stands in {} in {} places", piece, COUNTED_MODULE, places.len()))
+        }
+    }
+}
+
+fn write_out(name: &str, text: &str) {
+    let target = PathBuf::from(variable("OUT_DIR")).join(name);
+    if let Err(error) = fs::write(&target, text) {
         give_up(&format!("cannot write {}: {}", target.display(), error));
     }
 }

@@ -27,7 +27,7 @@ pub data Vector : Type 0 where
   vector : Forest → List Command → List ℕ → Vector
 
 -- ── a step in document 01's output encoding, as one number ───────────────────
-abbrev signNo : Bool → ℕ
+abbrev pub signNo : Bool → ℕ
 signNo false = 0
 signNo true = 1
 
@@ -42,11 +42,11 @@ thenRefs n (r ∷ rs) = thenRefs (thenRef n r) rs
 abbrev stepNumber : Step → ℕ
 stepNumber s = thenRefs (thenRef (stepNo (s .op)) (s .destination) * 256 + length (s .sources)) (s .sources)
 
-abbrev stepNumbers : List Step → List ℕ
+abbrev pub stepNumbers : List Step → List ℕ
 stepNumbers [] = []
 stepNumbers (x ∷ xs) = stepNumber x ∷ stepNumbers xs
 
-abbrev counted : List ℕ → List ℕ
+abbrev pub counted : List ℕ → List ℕ
 counted l = length l ∷ l
 
 -- ── a state ──────────────────────────────────────────────────────────────────
@@ -62,10 +62,10 @@ abbrev blockNumbers : List Block → List ℕ
 blockNumbers [] = []
 blockNumbers (b ∷ bs) = ((b .expression * 256 + b .row) * 65536 + length (b .steps)) ∷ blockNumbers bs
 
-abbrev stateNumbers : Forest → State → List ℕ
+abbrev pub stateNumbers : Forest → State → List ℕ
 stateNumbers E st = st .counter ∷ marksOf E st
 
-abbrev segmentNumbers : Segment → List ℕ
+abbrev pub segmentNumbers : Segment → List ℕ
 segmentNumbers s = counted (stepNumbers (s .first)) ++ (counted (stepNumbers (s .i)) ++ counted (stepNumbers (s .last)))
 
 -- ── a script ─────────────────────────────────────────────────────────────────
@@ -79,7 +79,7 @@ answers E [] st = []
 answers E (request q ∷ cs) st = afterRequest E (serve 2 E q st) (λ st′. answers E cs st′)
 answers E (build ∷ cs) st = segmentNumbers (segment E st) ++ (stateNumbers E (afterBuild 2 E st) ++ answers E cs (afterBuild 2 E st))
 
-abbrev same : List ℕ → List ℕ → Bool
+abbrev pub same : List ℕ → List ℕ → Bool
 same [] [] = true
 same [] (y ∷ ys) = false
 same (x ∷ xs) [] = false

@@ -10,5 +10,11 @@ extern crate serde_json;
 pub mod constant;
 mod elsewhere;
 pub mod traits;
+pub mod visits;
+
+/// The degree rule once more, with its visits counted.
+pub mod counted {
+    include!(concat!(env!("OUT_DIR"), "/counted.rs"));
+}
 
 include!(concat!(env!("OUT_DIR"), "/modules.rs"));
