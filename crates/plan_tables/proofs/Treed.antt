@@ -10,7 +10,7 @@ use lib.Seq.{getD-take}
 use Rattle.kinds.specs.Range.{within}
 use Rattle.plan_tables.specs.Tables.{numbersIn, treeWord, treesOf, treesIn}
 use Rattle.plan_tables.specs.Listed.{Listed, Put, listed-put}
-use Rattle.plan_tables.proofs.Sectioned.{numbers-most, numbers-more}
+use Rattle.plan_tables.specs.Sectioned.{numbers-most, numbers-more}
 
 -- a value that is another
 pub put-as : {c : Bool} {l l′ : List ℕ} {n v a r : ℕ} → v ≡ a → Put c l l′ n v r → Put c l l′ n a r

@@ -37,13 +37,10 @@ module _ (a b : ℕ) where
       by true h = omega arith
       by false h = omega arith
 
-  numbers-snoc : (k : ℕ) (ss : List ℕ) (s j : ℕ) → k + length ss ≡ j → numbersIn a b k (ss ++ (s ∷ [])) ≡ numbersIn a b k ss ++ cond (within a b s) (j ∷ []) []
+  pub numbers-snoc : (k : ℕ) (ss : List ℕ) (s j : ℕ) → k + length ss ≡ j → numbersIn a b k (ss ++ (s ∷ [])) ≡ numbersIn a b k ss ++ cond (within a b s) (j ∷ []) []
   numbers-snoc k [] s j e = let q : k ≡ j = omega arith in rw q
   numbers-snoc k (x ∷ ss) s j e = by (within a b x) (numbers-snoc (suc k) ss s j (omega arith))
     where
-      end : List ℕ
-      end = cond (within a b s) (j ∷ []) []
-
       by :
           (c : Bool) → numbersIn a b (suc k) (ss ++ (s ∷ [])) ≡ numbersIn a b (suc k) ss ++ cond (within a b s) (j ∷ []) [] →
           cond c (k ∷ numbersIn a b (suc k) (ss ++ (s ∷ []))) (numbersIn a b (suc k) (ss ++ (s ∷ []))) ≡ cond c (k ∷ numbersIn a b (suc k) ss) (numbersIn a b (suc k) ss) ++ cond (within a b s) (j ∷ []) []
