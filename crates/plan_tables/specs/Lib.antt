@@ -9,3 +9,4 @@ pub mod Rules
 pub mod Records
 pub mod Sizes
 pub mod Whole
+pub mod Readings

@@ -1,6 +1,6 @@
 -- The numbers of the records in some sections, one record after the other. Assumes nothing.
-use Prim.Native.Nat.{ℕ, zero, suc, _+_, _<_, _≤_}
-use mathlib.Core.Path.{_≡_, refl, sym, _∙_, ap, subst}
+use Prim.Native.Nat.{ℕ, suc, _+_, _<_, _≤_}
+use mathlib.Core.Path.{_≡_, refl, sym, ap, subst}
 use mathlib.Core.Bool.{Bool, true, false, cond}
 use mathlib.Core.List.{List, [], _∷_, _++_}
 use native.Mathlib.Omega.{arith}
@@ -9,7 +9,7 @@ use lib.ListN.{length, getD, set, take}
 use lib.Seq.{take-suc, length-take-le}
 use Rattle.kinds.specs.Range.{within, within-in, within-below, within-above}
 use Rattle.plan_tables.specs.Tables.{numbersIn}
-use Rattle.plan_tables.specs.Listed.{Listed, Put, listed-none, listed-put}
+use Rattle.plan_tables.specs.Listed.{Listed, Put, listed-put}
 
 -- ---- one record
 

@@ -1,13 +1,13 @@
 -- HOW LONG THE TABLES OF A PLAN ARE: cm_n and cm_2ns have a record for each cm number, and every temporary column has one. Assumes nothing.
 use Prim.Native.Nat.{ℕ, zero, suc, _+_, _*_, _≤_}
-use mathlib.Core.Path.{_≡_, refl, sym, _∙_, ap}
+use mathlib.Core.Path.{_≡_, refl, _∙_, ap}
 use mathlib.Core.Bool.{Bool, true, false, _||_, cond}
 use mathlib.Core.List.{List, [], _∷_, _++_}
 use native.Mathlib.Omega.{arith}
 use lib.ListN.{length, length-append}
 use Rattle.kinds.specs.Range.{within, within-in, within-below, within-above}
 use Rattle.pool.specs.Pool.{Pool}
-use Rattle.plans.specs.Plan.{cm1, cm2, cm3, cm4, qDeg, puCount, imCount, productCount, fOf, tOf, numOf, denOf, imOf}
+use Rattle.plans.specs.Plan.{cm1, cm2, cm3, qDeg, puCount, imCount, productCount, fOf, tOf, numOf, denOf, imOf}
 use Rattle.plans.specs.Columns.{among, isIm}
 use Rattle.plans.specs.Agreement.{cmCount, countsAgree}
 use Rattle.plans.specs.Passed.{counts-agree}

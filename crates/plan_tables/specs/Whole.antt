@@ -9,13 +9,12 @@ use lib.ListN.{length, getD, take, replicate, length-replicate, getD-replicate, 
 use lib.Seq.{getD-take}
 use lib.Dec.{eqb, ltb}
 use borrow.Author.Tests.{ltb-true, ltb-false}
-use Rattle.kinds.specs.Write.{write, write-length, write-there, write-after}
+use Rattle.kinds.specs.Write.{write, write-there, write-after}
 use Rattle.pool.specs.Pool.{Pool}
 use Rattle.plans.specs.Plan.{imCount, imOf}
-use Rattle.plans.specs.Agreement.{cmCount}
 use Rattle.plans.specs.Passed.{counts-agree}
 use Rattle.sections.specs.Sums.{each}
-use Rattle.map_records.specs.Mapping.{Mapping, mapped}
+use Rattle.map_records.specs.Mapping.{mapped}
 use Rattle.map_records.specs.Tables.{Planned}
 use Rattle.plan_tables.specs.Tables.{cmN, columnRecords, ofColumn, ofIm, rulesOf, rules, imPlace, noRecord, recordOf, recordsOf, exp2pol}
 use Rattle.plan_tables.specs.Gathered.{columnsOf}
