@@ -1,4 +1,4 @@
--- HOW LONG THE TABLES OF A PLAN ARE: cm_n and cm_2ns have a record for each cm number, and every temporary column has one. Assumes nothing.
+-- HOW LONG THE TABLES OF A PLAN ARE: every cm number has a record in each domain and a tree, and every temporary column a record. Assumes nothing.
 use Prim.Native.Nat.{ℕ, zero, suc, _+_, _*_, _≤_}
 use mathlib.Core.Path.{_≡_, refl, _∙_, ap}
 use mathlib.Core.Bool.{Bool, true, false, _||_, cond}
@@ -13,9 +13,15 @@ use Rattle.plans.specs.Agreement.{cmCount, countsAgree}
 use Rattle.plans.specs.Passed.{counts-agree}
 use Rattle.map_records.specs.Mapping.{Mapping, pol, pair, grown, column, cm1s, hAt, zAt, lookup, lookupDim, lookups, products, dimIn, intermediates, qDim, quotients, mapped}
 use Rattle.map_records.specs.Sizes.{snoc-size, quotients-columns}
-use Rattle.plan_tables.specs.Tables.{numbersIn, cmN, cm2ns, columnRecords}
+use Rattle.plan_tables.specs.Tables.{numbersIn, cmN, cm2ns, columnRecords, treesOf, positions, trees}
 use Rattle.plan_tables.specs.Gathered.{columnsOf}
 use Rattle.plan_tables.specs.Sectioned.{numbers-snoc}
+
+-- ---- as many trees as records
+
+pub trees-of-size : (ss ds ps rs : List ℕ) → length (treesOf ss ds ps rs) ≡ length rs
+trees-of-size ss ds ps [] = refl
+trees-of-size ss ds ps (r ∷ rs) = ap suc (trees-of-size ss ds ps rs)
 
 -- ---- records in sections a to c
 
@@ -130,6 +136,10 @@ module _ (b : List ℕ) (p : Pool) (agree : countsAgree b ≡ true) where
 
   pub cm-2ns-size : length (cm2ns (mapped b p)) ≡ cmCount b
   cm-2ns-size = let k = counts-agree b agree in mapped-many 5 8 of2ns b p ∙ omega (arith, k .second, k .third, k .fourth)
+
+  -- AND A TREE
+  pub trees-size : length (trees (mapped b p)) ≡ cmCount b
+  trees-size = trees-of-size (mapped b p .sections) (mapped b p .dims) (positions (mapped b p)) (cm2ns (mapped b p)) ∙ cm-2ns-size
 
 -- ---- temporary columns
 

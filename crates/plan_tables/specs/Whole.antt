@@ -11,12 +11,14 @@ use lib.Dec.{eqb, ltb}
 use borrow.Author.Tests.{ltb-true, ltb-false}
 use Rattle.kinds.specs.Write.{write, write-there, write-after}
 use Rattle.pool.specs.Pool.{Pool}
-use Rattle.plans.specs.Plan.{imCount, imOf}
-use Rattle.plans.specs.Passed.{counts-agree}
+use Rattle.plans.specs.Plan.{nBits, nBitsExt, imCount, imOf}
+use Rattle.plans.specs.Agreement.{bitsGood}
+use Rattle.plans.specs.Passed.{bits-in, counts-agree}
 use Rattle.sections.specs.Sums.{each}
 use Rattle.map_records.specs.Mapping.{mapped}
 use Rattle.map_records.specs.Tables.{Planned}
 use Rattle.plan_tables.specs.Tables.{cmN, columnRecords, ofColumn, ofIm, rulesOf, rules, imPlace, noRecord, recordOf, recordsOf, exp2pol}
+use Rattle.plan_tables.specs.Bounds.{BitsFew}
 use Rattle.plan_tables.specs.Gathered.{columnsOf}
 use Rattle.plan_tables.specs.Sizes.{cm-n-size, mapped-columns, column-records-size}
 
@@ -37,6 +39,12 @@ padded-at n xs h e = by (ltb e (length xs)) refl
     by false p =
         let g : length xs ≤ e = ltb-false e (length xs) p in
         write-after (replicate n 0) 0 xs e (omega arith) ∙ zeros (ltb e n) refl ∙ sym (List·getD-eq-default xs 0 g)
+
+-- ---- bits
+
+-- those of a plan are in the offsets' range
+pub bits-few : (b : List ℕ) → bitsGood b ≡ true → BitsFew (nBits b) (nBitsExt b)
+bits-few b h = let k = bits-in b h in record { few = omega (arith, k .few); extended = omega (arith, k .few, k .blownUp) }
 
 -- ---- rules
 
