@@ -6,7 +6,8 @@ usage: tools/plans_to_antt.py [--check]      (from the repository's top folder)
 --check writes nothing and fails where a file is not what it would be.
 
 Each family of vectors that ask `map` becomes a module with a table and one statement, proved by computation: the definitions of
-the crates `plans`, `exp_dims` and `map_records` give the original's records, cm_dims and q_dim, and the document's refusals. So do
+the crates `plans`, `exp_dims`, `map_records`, `sections` and `plan_tables` give the original's records, cm_dims and q_dim, positions, cm_n, cm_2ns, exp2pol,
+widths and offsets, and the document's refusals. So do
 those that ask `exp_dims`, those that ask `sections`, with the definitions of the crate `sections`, and those that ask for a walk over a
 segment, with those of `fixing`, `query_fixing` and `dimensions`.
 Left out are plans that form a cycle (4), which no test of the definitions tells, and records of a section that there is not, which
@@ -36,15 +37,18 @@ use Rattle.plans.specs.Columns as plan
 use Rattle.plans.specs.Columns.{among, isIm, adding, fits}
 use Rattle.plans.specs.Agreement.{namesThere, bitsGood, countsAgree}
 use Rattle.map_records.specs.Mapping.{column, cm1s, lookups, products, intermediates, qDim, quotients, mapped, someNone}
+use Rattle.sections.specs.Sections.{placed, positionOf, firstWidth, wholeWidth, thirdWidth}
 use Rattle.replay_plans.specs.Replay.{Vector, vector, node, root, agree}
 """
 UNFOLDING = (
     "first u16At childCount within tree shape expDim numberAt isPlan plan.lookups plan.products among isIm adding fits namesThere "
-    "bitsGood countsAgree column cm1s lookups products intermediates qDim quotients mapped someNone vectors"
+    "bitsGood countsAgree column cm1s lookups products intermediates qDim quotients mapped someNone placed positionOf firstWidth wholeWidth thirdWidth vectors"
 )
 DIMENSIONS = "Dimensions"
 SECTIONS = "Sections"
 SECTION_COUNT = 11
+# an expression without a record in exp2pol
+NO_RECORD = 0xFFFF
 # each walk that is asked for: its constructor, and the module of its vectors
 WALKS = {
     "fix n": ("fixN", "Fixing"),
@@ -73,7 +77,6 @@ use Rattle.replay_plans.specs.Replay.{Placing, placing, agreePlaced}
 SECTION_UNFOLDING = "within placed positionOf firstWidth wholeWidth thirdWidth vectors"
 WALK_USES = USES.replace("use Rattle.replay_plans.specs.Replay.{Vector, vector, node, root, agree}\n", """use Rattle.kinds.specs.Kinds.{isReference, isLeaf}
 use Rattle.kinds.specs.StepOps.{isStep, sourcesNeeded}
-use Rattle.sections.specs.Sections.{placed, positionOf}
 use Rattle.lent_lists.specs.Records as lists
 use Rattle.lent_lists.specs.Records.{runs, usedBy, recordBy}
 use Rattle.lent_lists.specs.Walks.{walked, usedVerdict, recordVerdict}
@@ -86,7 +89,7 @@ use Rattle.replay_plans.specs.Replay.{node, root}
 use Rattle.replay_plans.specs.Walks.{WalkVector, walkVector, lists′, ref, step, blank, fixN, fix2ns, query, dims, dimsFirst, fixDimsN, fixDims2ns, queryDims, no-more, becomes, agreeWalked}
 """)
 WALK_UNFOLDING = UNFOLDING + (
-    " isReference isLeaf isStep sourcesNeeded placed positionOf runs usedBy recordBy lists.mapped walked usedVerdict recordVerdict ruleKind ruleId ruleDim "
+    " isReference isLeaf isStep sourcesNeeded runs usedBy recordBy lists.mapped walked usedVerdict recordVerdict ruleKind ruleId ruleDim "
     "ruleFor ruledReference meetReference meetUsed meetRecord meetRecords fixReference treeFor treeKind treePosition treeDim hasTree treedReference "
     "treeReference ruleNo isDestination through sourceDim sourceDims largest stepWith noted passed"
 )
@@ -134,15 +137,20 @@ def listed(items):
     return "(" + "".join(f"{item} ∷ " for item in items) + "[])"
 
 
-def expected(answers):
+def expected(question, answers):
     """The original's answer as `answer` of Replay.antt gives it."""
+    expressions = sum(line.startswith("02") and " " not in line for line in question)
     if answers[0].startswith("refused"):
         return [int(answers[0].split()[1])]
     said = {line.split()[0]: [word for word in line.split()[1:] if word != "-"] for line in answers}
     records = [record.split(":") for record in said["records"]]
-    columns = [entry.split(":")[0] for entry in said["tmpexp"]]
-    rows = [[r[0] for r in records], [r[1] for r in records], columns, said["cm_dims"]]
-    return [0] + [int(n) for row in rows for n in [len(row)] + row] + [int(said["q_dim"][0])]
+    columns = [entry.split(":") for entry in said["tmpexp"]]
+    exp2pol = dict(entry.split(":") for entry in said["exp2pol"])
+    placed = [exp2pol.get(str(e), NO_RECORD) for e in range(expressions)]
+    rows = [[r[0] for r in records], [r[1] for r in records], [c[0] for c in columns], said["cm_dims"], said["q_dim"]]
+    rows += [[r[2] for r in records], said["cm_n"], said["cm_2ns"], [c[1] for c in columns], placed]
+    rows += [said["n1"] + said["n"] + said["n3"], said["offsets"] + said["total"]]
+    return [0] + [int(n) for row in rows for n in [len(row)] + row]
 
 
 def vector(name, question, wanted):
@@ -208,7 +216,7 @@ def modules():
         rest = [line for line in question if line != asked]
         if asked == "ask map" and answers != CYCLE:
             key = next(k for k in sorted(FAMILIES, key=len, reverse=True) if name.startswith(k))
-            families[key].append(vector(name, rest, expected(answers)))
+            families[key].append(vector(name, rest, expected(rest, answers)))
         elif asked == "ask exp_dims" and not answers[0].startswith("refused"):
             dims.append(vector(name, rest, answers[0].split()[1:]))
         elif asked == "ask sections" and all(int(line.split()[1]) < SECTION_COUNT for line in rest):

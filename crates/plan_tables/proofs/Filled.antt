@@ -1,19 +1,19 @@
 -- A table by expression, one column or intermediate after the other. Assumes nothing.
-use Prim.Native.Nat.{ℕ, zero, suc, _+_, _-_, _*_, _<_, _≤_}
+use Prim.Native.Nat.{ℕ, suc, _+_, _<_, _≤_}
 use mathlib.Core.Path.{_≡_, refl, sym, _∙_, ap, subst}
 use mathlib.Core.Bool.{Bool, true, false, cond}
-use mathlib.Core.List.{List, [], _∷_, _++_}
+use mathlib.Core.List.{List, [], _∷_}
 use native.Mathlib.Omega.{arith}
 use native.Mathlib.Nat.{zero-add}
 use native.Mathlib.Numerals.{add-one}
-use lib.ListN.{length, getD, set, take, drop, replicate, length-set, length-take}
+use lib.ListN.{length, getD, set, take, drop, length-set}
 use lib.Seq.{getD-set-same, getD-set-other, getD-take, drop-cons, drop-length, ext-getD, length-take-le}
 use lib.Dec.{eqb, ltb}
 use borrow.Author.Tests.{eqb-true, eqb-false, ltb-true, ltb-false}
 use Rattle.kinds.specs.Write.{write, write-length, write-there, write-after}
 use Rattle.frames.specs.Order.{expressionLimit}
 use Rattle.sections.specs.Sums.{each, each-length, each-at}
-use Rattle.plans.specs.Plan.{Is, numberLimit, imCount, imOf}
+use Rattle.plans.specs.Plan.{imCount, imOf}
 use Rattle.plan_tables.specs.Tables.{ofColumn, ofIm}
 use Rattle.plan_tables.specs.Cells.{Cells, ImsAsks}
 

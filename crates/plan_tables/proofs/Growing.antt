@@ -1,5 +1,5 @@
 -- One expression more among those with a temporary column, or none. Assumes nothing.
-use Prim.Native.Nat.{ℕ, suc, _+_, _*_, _<_, _≤_}
+use Prim.Native.Nat.{ℕ, _+_, _*_, _<_, _≤_}
 use mathlib.Core.Path.{_≡_, refl, sym, _∙_, ap, subst}
 use mathlib.Core.Bool.{Bool, true, false, cond}
 use mathlib.Core.List.{List, [], _∷_, _++_}
@@ -11,7 +11,7 @@ use borrow.Author.Tests.{eq-eqb}
 use Rattle.plans.specs.Plan.{Is, numberLimit, puCount, productCount, fOf, tOf, numOf, denOf}
 use Rattle.plans.specs.Columns.{recordLimit, adding, lookups, products}
 use Rattle.plans.specs.Counting.{Tells, Asked, Counted, known, added}
-use Rattle.plans.specs.Counts.{counted-one, asked-seen, asked-new, no-lookups}
+use Rattle.plans.specs.Counts.{counted-one, no-lookups}
 use Rattle.plan_tables.specs.Listed.{Listed, listed-none, listed-snoc}
 use Rattle.plan_tables.specs.Gathered.{ColumnPut, Gathered, Fitting, AfterLookups, columnsOf}
 

@@ -1,5 +1,4 @@
 -- Lemmas over plain variables, which the functions' proofs cite.
-pub mod Sectioned
 pub mod Summed
 pub mod Growing
 pub mod Filled

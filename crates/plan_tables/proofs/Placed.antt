@@ -1,15 +1,14 @@
 -- The records of the expressions from a plan's columns and intermediates. Assumes nothing.
-use Prim.Native.Nat.{ℕ, suc, _+_, _<_, _≤_}
-use mathlib.Core.Path.{_≡_, refl, sym, _∙_, ap, subst}
+use Prim.Native.Nat.{ℕ, suc, _<_, _≤_}
+use mathlib.Core.Path.{_≡_, refl, _∙_, ap}
 use mathlib.Core.List.{List}
 use native.Mathlib.Omega.{arith}
-use lib.ListN.{length, getD, set, take, replicate, length-replicate, getD-replicate}
+use lib.ListN.{length, getD, set, length-replicate, getD-replicate}
 use Rattle.kinds.specs.Write.{write}
 use Rattle.frames.specs.Order.{expressionLimit}
 use Rattle.plans.specs.Plan.{imCount}
 use Rattle.plans.specs.Columns.{recordLimit}
 use Rattle.plans.specs.Passed.{names-there, counts-agree}
-use Rattle.sections.specs.Sums.{each}
 use Rattle.map_records.specs.Agreed.{few-cms}
 use Rattle.map_records.specs.Tables.{Planned}
 use Rattle.plan_tables.specs.Tables.{ofColumn, ofIm, imPlace, recordsOf}

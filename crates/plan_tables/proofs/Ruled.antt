@@ -1,11 +1,11 @@
 -- The rules of fixing from a plan's columns and intermediates. Assumes nothing.
-use Prim.Native.Nat.{ℕ, suc, _+_, _<_, _≤_}
+use Prim.Native.Nat.{ℕ, suc, _<_, _≤_}
 use mathlib.Core.Path.{_≡_, refl, sym, _∙_, ap, subst}
 use mathlib.Core.Bool.{Bool, true, false, cond}
-use mathlib.Core.List.{List, []}
+use mathlib.Core.List.{List}
 use mathlib.Core.Logic.{inl}
 use native.Mathlib.Omega.{arith}
-use lib.ListN.{length, getD, set, take, replicate, length-replicate, getD-replicate}
+use lib.ListN.{length, getD, set, replicate, length-replicate, getD-replicate}
 use Rattle.kinds.specs.KindBytes as kind
 use Rattle.kinds.specs.Write.{write}
 use Rattle.frames.specs.Order.{expressionLimit}
@@ -17,7 +17,7 @@ use Rattle.plans.specs.Plan.{q2exp, imCount, imCm}
 use Rattle.plans.specs.Columns.{recordLimit}
 use Rattle.plans.specs.Passed.{names-there}
 use Rattle.exp_dims.specs.Dimension.{expDim}
-use Rattle.exp_dims.specs.Known.{D, Sound, World, ExpAsks, Gives}
+use Rattle.exp_dims.specs.Known.{D, Sound, ExpAsks, Gives}
 use Rattle.sections.specs.Sums.{each}
 use Rattle.plan_tables.specs.Tables.{ofColumn, ofIm, packed, ruleOf, rulesOf}
 use Rattle.plan_tables.specs.Cells.{Cells, ImsAsks}

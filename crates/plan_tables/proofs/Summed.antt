@@ -1,7 +1,7 @@
 -- Offsets are sums of what the sections before take, and stay small. Assumes nothing.
 use Prim.Native.Nat.{ℕ, suc, _+_, _*_, _%_, _^_, _<_, _≤_}
 use mathlib.Core.Path.{_≡_, refl, sym, _∙_, ap, ap₂, subst}
-use mathlib.Core.Bool.{Bool, true, false, cond}
+use mathlib.Core.Bool.{cond}
 use mathlib.Core.List.{List, [], _∷_, _++_}
 use native.Mathlib.Omega.{arith}
 use native.Mathlib.Numerals.{add-one}
@@ -9,7 +9,6 @@ use native.Mathlib.Nat.{one-mul, mul-le-mul}
 use lib.ListN.{length, getD, set}
 use lib.Seq.{take-all}
 use lib.Pow.{pow-mono, shl-exact}
-use lib.Dec.{leb}
 use borrow.Author.Tests.{le-leb, lt-leb}
 use Rattle.sections.specs.Sections.{sectionCount}
 use Rattle.sections.specs.Sums.{each, each-length}

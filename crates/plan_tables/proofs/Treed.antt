@@ -1,16 +1,16 @@
 -- The trees of the cm numbers, one record after the other. Assumes nothing.
-use Prim.Native.Nat.{ℕ, suc, _+_, _<_, _≤_}
-use mathlib.Core.Path.{_≡_, refl, sym, _∙_, ap, ap₂, subst}
+use Prim.Native.Nat.{ℕ, _+_, _<_, _≤_}
+use mathlib.Core.Path.{_≡_, refl, sym, _∙_, ap, subst}
 use mathlib.Core.Bool.{Bool, true, false, cond}
 use mathlib.Core.List.{List, [], _∷_, _++_}
 use native.Mathlib.Omega.{arith}
-use native.Mathlib.Numerals.{add-one}
 use lib.ListN.{length, getD, take}
 use lib.Seq.{getD-take}
 use Rattle.kinds.specs.Range.{within}
 use Rattle.plan_tables.specs.Tables.{numbersIn, treeWord, treesOf, treesIn}
 use Rattle.plan_tables.specs.Listed.{Listed, Put, listed-put}
-use Rattle.plan_tables.proofs.Sectioned.{numbers-most, numbers-more}
+use Rattle.plan_tables.specs.Sectioned.{numbers-most, numbers-more}
+use Rattle.plan_tables.specs.Sizes.{trees-of-size}
 
 -- a value that is another
 pub put-as : {c : Bool} {l l′ : List ℕ} {n v a r : ℕ} → v ≡ a → Put c l l′ n v r → Put c l l′ n a r
@@ -20,10 +20,6 @@ module _ (ss ds ps : List ℕ) where
   trees-append : (xs ys : List ℕ) → treesOf ss ds ps (xs ++ ys) ≡ treesOf ss ds ps xs ++ treesOf ss ds ps ys
   trees-append [] ys = refl
   trees-append (x ∷ xs) ys = ap (λ (z : List ℕ). treeWord (getD ss x 0) (getD ps x 0) (getD ds x 0) ∷ z) (trees-append xs ys)
-
-  trees-size : (xs : List ℕ) → length (treesOf ss ds ps xs) ≡ length xs
-  trees-size [] = refl
-  trees-size (x ∷ xs) = ap suc (trees-size xs)
 
   one : (c : Bool) (k : ℕ) → treesOf ss ds ps (cond c (k ∷ []) []) ≡ cond c (treeWord (getD ss k 0) (getD ps k 0) (getD ds k 0) ∷ []) []
   one true k = refl
@@ -36,7 +32,7 @@ module _ (ss ds ps : List ℕ) (count : ℕ) (whole : count ≤ length ss) where
 
   module _ {l t : List ℕ} {n k : ℕ} (h : Listed l t n (treesTo k)) (less : k < count) where
     pub trees-room : n ≤ k
-    trees-room = omega (arith, h .count, trees-size (take count ss) (take count ds) (take count ps) (numbersIn 5 8 0 (take k ss)), numbers-most 5 8 ss k (omega arith))
+    trees-room = omega (arith, h .count, trees-of-size (take count ss) (take count ds) (take count ps) (numbersIn 5 8 0 (take k ss)), numbers-most 5 8 ss k (omega arith))
 
     pub trees-next : {t′ : List ℕ} {r : ℕ} → Put (within 5 8 (getD ss k 0)) t t′ n (treeWord (getD ss k 0) (getD ps k 0) (getD ds k 0)) r → Listed l t′ r (treesTo (k + 1))
     trees-next {t′} {r} q = subst (λ z. Listed l t′ r z) (sym more) (listed-put h (within 5 8 (getD ss k 0)) (treeWord (getD ss k 0) (getD ps k 0) (getD ds k 0)) q)

@@ -12,10 +12,11 @@ use Rattle.pool.specs.Pool.{Pool}
 use Rattle.pool.specs.Admission.{shape}
 use Rattle.exp_dims.specs.Dimension.{expDim}
 use Rattle.sections.specs.Sections.{positionsFrom, widths}
-use Rattle.plans.specs.Plan.{isPlan, q2expCount, q2exp}
+use Rattle.plans.specs.Plan.{isPlan, nBits, nBitsExt, q2expCount, q2exp}
 use Rattle.plans.specs.Columns.{fits}
 use Rattle.plans.specs.Agreement.{cmCount, namesThere, leafThere, bitsGood, countsAgree}
 use Rattle.map_records.specs.Mapping.{Mapping, qDim, mapped, someNone}
+use Rattle.plan_tables.specs.Tables.{positions, cmN, cm2ns, columnRecords, exp2pol, offsetsOf}
 
 abbrev pub node : ℕ → ℕ → ℕ → ℕ → ℕ → ℕ → Node
 node k id count a b c = record { kind = k; next = 0; id = id; count = count; c0 = a; c1 = b; c2 = c; sign = 0; magnitude = 0 }
@@ -34,9 +35,18 @@ leavesThere cms qs (x ∷ xs) = leafThere cms qs (x .kind) (x .id) && leavesTher
 abbrev counted : List ℕ → List ℕ
 counted l = length l ∷ l
 
--- an accepted plan: 0, then the records' sections and dimensions, the expressions with a column, cm_dims, q_dim
+-- the tables of a plan: the records' positions, cm_n and cm_2ns, the records of the temporary columns and of the expressions, the widths of the sections, their
+-- offsets and the total
+abbrev tableNumbers : Pool → List ℕ → Mapping → List ℕ
+tableNumbers p b m =
+    let ws = widths (m .sections) (m .dims) in
+    counted (positions m) ++ counted (cmN m) ++ counted (cm2ns m) ++ counted (columnRecords m) ++ counted (exp2pol b m (length (p .expressions))) ++ counted ws
+    ++ counted (offsetsOf (nBits b) (nBitsExt b) ws)
+
+-- an accepted plan: 0, then the records' sections and dimensions, the expressions with a column, cm_dims, q_dim, and its tables
 abbrev recordNumbers : Pool → List ℕ → Mapping → List ℕ
-recordNumbers p b m = 0 ∷ counted (m .sections) ++ counted (m .dims) ++ counted (m .columns) ++ counted (take (cmCount b) (m .cmDims)) ++ (qDim b p ∷ [])
+recordNumbers p b m =
+    0 ∷ counted (m .sections) ++ counted (m .dims) ++ counted (m .columns) ++ counted (take (cmCount b) (m .cmDims)) ++ counted (qDim b p ∷ []) ++ tableNumbers p b m
 
 abbrev late : Pool → List ℕ → List ℕ
 late p b =

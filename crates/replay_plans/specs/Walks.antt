@@ -1,22 +1,19 @@
 -- The definitions of fixing, of the query code's walk and of the dimension pass run on stored segments, with the tables of a plan, and their answers as numbers.
 -- Assumes nothing: these are definitions.
-use Prim.Native.Nat.{ℕ, zero, suc, _+_, _-_, _*_, _≤_}
+use Prim.Native.Nat.{ℕ, _+_, _*_}
 use mathlib.Core.Bool.{Bool, true, false, _&&_, cond}
 use mathlib.Core.List.{List, [], _∷_, _++_}
-use lib.ListN.{length, getD, replicate}
+use lib.ListN.{length}
 use lib.Dec.{eqb, leb}
-use Rattle.kinds.specs.KindBytes as kind
-use Rattle.kinds.specs.Range.{within}
 use Rattle.kinds.specs.declared.reference.Reference.{Reference}
 use Rattle.kinds.specs.declared.step.Step.{Step}
 use Rattle.meaning.specs.Refusals.{Answer, done, refused, number}
 use Rattle.frames.specs.declared.node.Node.{Node}
 use Rattle.frames.specs.declared.rest.Expression.{Expression}
 use Rattle.pool.specs.Pool.{Pool}
-use Rattle.exp_dims.specs.Dimension.{expDim}
-use Rattle.sections.specs.Sections.{positionsFrom}
-use Rattle.plans.specs.Plan.{imCount, imOf, imCm, qs, q2exp}
+use Rattle.plans.specs.Plan.{qs}
 use Rattle.map_records.specs.Mapping.{Mapping, mapped}
+use Rattle.plan_tables.specs.Tables.{cmN, cm2ns, trees, rules}
 use Rattle.lent_lists.specs.Verdicts.{Verdict, fine, verdictNo}
 use Rattle.lent_lists.specs.Records.{recordBy}
 use Rattle.lent_lists.specs.Records as lists
@@ -57,40 +54,6 @@ stepNumbers (x ∷ xs) = x .op ∷ x .count ∷ refNumber (x .dest) ∷ refNumbe
 
 abbrev listsNumbers : Lists → List ℕ
 listsNumbers s = 0 ∷ s .counter ∷ stepNumbers (s .first) ++ (length (s .i) ∷ stepNumbers (s .i)) ++ (length (s .last) ∷ stepNumbers (s .last))
-
--- ── the tables of a plan ─────────────────────────────────────────────────────
--- the numbers, from k on, of the records in sections a to b
-abbrev numbersIn : ℕ → ℕ → ℕ → List ℕ → List ℕ
-numbersIn a b k [] = []
-numbersIn a b k (s ∷ ss) = let rest = numbersIn a b (suc k) ss in cond (within a b s) (k ∷ rest) rest
-
-abbrev cmN : Mapping → List ℕ
-cmN m = numbersIn 0 3 0 (m .sections)
-
-abbrev cm2ns : Mapping → List ℕ
-cm2ns m = numbersIn 5 8 0 (m .sections)
-
--- tree1 to tree4 by section, with position and dimension
-abbrev treesOf : Mapping → List ℕ → List ℕ → List ℕ
-treesOf m ps [] = []
-treesOf m ps (r ∷ rs) = ((kind.tree1 + (getD (m .sections) r 0 - 5)) * 0x100000000 + getD ps r 0 * 0x10000 + getD (m .dims) r 0) ∷ treesOf m ps rs
-
-abbrev trees : Mapping → List ℕ
-trees m = treesOf m (positionsFrom (m .sections) (m .dims) (replicate (length (m .sections)) 0)) (cm2ns m)
-
--- what each expression becomes: an intermediate's cm, in "n" a temporary column, else a new temporary
-abbrev imRule : List ℕ → ℕ → ℕ → ℕ → ℕ
-imRule b e zero other = other
-imRule b e (suc k) other = cond (eqb (imOf b k) e) (kind.cm * 0x100000000 + imCm b k * 0x10000) (imRule b e k other)
-
-abbrev columnRule : ℕ → ℕ → ℕ → List ℕ → ℕ
-columnRule d e k [] = 0
-columnRule d e k (c ∷ cs) = cond (eqb c e) (kind.tmpExp * 0x100000000 + k * 0x10000 + d) (columnRule d e (suc k) cs)
-
-abbrev rulesFrom : Bool → Pool → List ℕ → Mapping → List Expression → ℕ → List ℕ
-rulesFrom inN p b m [] e = []
-rulesFrom inN p b m (x ∷ xs) e =
-    imRule b e (imCount b) (cond inN (columnRule (expDim (m .cmDims) (q2exp b) p e) e 0 (m .columns)) 0) ∷ rulesFrom inN p b m xs (suc e)
 
 -- ── the walks ────────────────────────────────────────────────────────────────
 -- a refusal's number alone, or the lists after it
@@ -144,7 +107,7 @@ givenOf b m x = record { recordDims = m .dims; cm2ns = cm2ns m; qs = qs b; dimX 
 
 module _ (p : Pool) (b : List ℕ) where
   abbrev fixIn : Bool → Mapping → Lists → Walked
-  fixIn inN m s = fixWith (rulesFrom inN p b m (p .expressions) 0) (cond inN (cmN m) (cm2ns m)) s
+  fixIn inN m s = fixWith (rules inN p b m) (cond inN (cmN m) (cm2ns m)) s
 
   abbrev walkOf : Walk → Mapping → Lists → Walked
   walkOf fixN m s = fixIn true m s

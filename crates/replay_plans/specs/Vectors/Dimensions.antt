@@ -15,6 +15,7 @@ use Rattle.plans.specs.Columns as plan
 use Rattle.plans.specs.Columns.{among, isIm, adding, fits}
 use Rattle.plans.specs.Agreement.{namesThere, bitsGood, countsAgree}
 use Rattle.map_records.specs.Mapping.{column, cm1s, lookups, products, intermediates, qDim, quotients, mapped, someNone}
+use Rattle.sections.specs.Sections.{placed, positionOf, firstWidth, wholeWidth, thirdWidth}
 use Rattle.replay_plans.specs.Replay.{Vector, vector, node, root, agreeDims}
 
 unfoldable pub vectors : List Vector
@@ -59,5 +60,5 @@ vectors =
 
 -- THE DEFINITIONS GIVE THE ORIGINAL'S ANSWERS
 pub all-agree : agreeDims vectors ≡ true
-unfolding first u16At childCount within tree shape expDim numberAt isPlan plan.lookups plan.products among isIm adding fits namesThere bitsGood countsAgree column cm1s lookups products intermediates qDim quotients mapped someNone vectors
+unfolding first u16At childCount within tree shape expDim numberAt isPlan plan.lookups plan.products among isIm adding fits namesThere bitsGood countsAgree column cm1s lookups products intermediates qDim quotients mapped someNone placed positionOf firstWidth wholeWidth thirdWidth vectors
 all-agree = refl

@@ -15,9 +15,9 @@ use Rattle.plans.specs.Columns as plan
 use Rattle.plans.specs.Columns.{among, isIm, adding, fits}
 use Rattle.plans.specs.Agreement.{namesThere, bitsGood, countsAgree}
 use Rattle.map_records.specs.Mapping.{column, cm1s, lookups, products, intermediates, qDim, quotients, mapped, someNone}
+use Rattle.sections.specs.Sections.{placed, positionOf, firstWidth, wholeWidth, thirdWidth}
 use Rattle.kinds.specs.Kinds.{isReference, isLeaf}
 use Rattle.kinds.specs.StepOps.{isStep, sourcesNeeded}
-use Rattle.sections.specs.Sections.{placed, positionOf}
 use Rattle.lent_lists.specs.Records as lists
 use Rattle.lent_lists.specs.Records.{runs, usedBy, recordBy}
 use Rattle.lent_lists.specs.Walks.{walked, usedVerdict, recordVerdict}
@@ -939,5 +939,5 @@ vectors =
 
 -- THE DEFINITIONS GIVE THE ORIGINAL'S ANSWERS
 pub all-agree : agreeWalked vectors ≡ true
-unfolding first u16At childCount within tree shape expDim numberAt isPlan plan.lookups plan.products among isIm adding fits namesThere bitsGood countsAgree column cm1s lookups products intermediates qDim quotients mapped someNone vectors isReference isLeaf isStep sourcesNeeded placed positionOf runs usedBy recordBy lists.mapped walked usedVerdict recordVerdict ruleKind ruleId ruleDim ruleFor ruledReference meetReference meetUsed meetRecord meetRecords fixReference treeFor treeKind treePosition treeDim hasTree treedReference treeReference ruleNo isDestination through sourceDim sourceDims largest stepWith noted passed
+unfolding first u16At childCount within tree shape expDim numberAt isPlan plan.lookups plan.products among isIm adding fits namesThere bitsGood countsAgree column cm1s lookups products intermediates qDim quotients mapped someNone placed positionOf firstWidth wholeWidth thirdWidth vectors isReference isLeaf isStep sourcesNeeded runs usedBy recordBy lists.mapped walked usedVerdict recordVerdict ruleKind ruleId ruleDim ruleFor ruledReference meetReference meetUsed meetRecord meetRecords fixReference treeFor treeKind treePosition treeDim hasTree treedReference treeReference ruleNo isDestination through sourceDim sourceDims largest stepWith noted passed
 all-agree = refl

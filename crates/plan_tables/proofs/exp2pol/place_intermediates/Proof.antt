@@ -1,7 +1,7 @@
 -- `plan_tables::exp2pol::place_intermediates` meets its contract: the records of the intermediates before i stand there. Assumes nothing.
 use Prim.Native.Nat.{ℕ, _≤_, _-_}
 use mathlib.Core.List.{List}
-use mathlib.Core.Path.{_≡_, ap}
+use mathlib.Core.Path.{ap}
 use native.Mathlib.Omega.{arith}
 use lib.ListN.{getD}
 use Rattle.plans.specs.Plan.{imCount}

@@ -1,5 +1,5 @@
 -- `plan_tables::numbers::put_number` meets its contract. Assumes nothing.
-use Rattle.plan_tables.proofs.Sectioned.{put-below, put-above, put-in}
+use Rattle.plan_tables.specs.Sectioned.{put-below, put-above, put-in}
 use borrow.Author.Needs.{needs}
 use Rattle.plan_tables.proofs.numbers.put_number.Statement.{statement}
 use Rattle.plan_tables.proofs.numbers.put_number.Tie as tie

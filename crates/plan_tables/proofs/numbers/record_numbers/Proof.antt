@@ -4,7 +4,7 @@ use native.Mathlib.Omega.{arith}
 use lib.ListN.{take}
 use Rattle.plan_tables.specs.Tables.{numbersIn}
 use Rattle.plan_tables.specs.Listed.{Listed, listed-none}
-use Rattle.plan_tables.proofs.Sectioned.{numbers-room, numbers-next, numbers-end}
+use Rattle.plan_tables.specs.Sectioned.{numbers-room, numbers-next, numbers-end}
 use Rattle.plan_tables.proofs.numbers.record_numbers.Statement.{statement}
 use Rattle.plan_tables.proofs.numbers.record_numbers.Tie as tie
 

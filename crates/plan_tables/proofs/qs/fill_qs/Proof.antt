@@ -50,7 +50,7 @@ loop-again : tie.Need-loop-again Inv-loop μ-loop
 loop-again c = (omega (arith, c .before .loop-test .taken, c .before .before .before .before .qs-count .ensures .is), copied-next (λ j. numberAt (c .before .before .before .before .before .before .args .plan .now) (qsAt (c .before .before .before .before .before .before .args .plan .now) + j)) (c .before .before .before .before .before .before .args .numbers .now) (c .before .before .loop .i) (at-same (c .before .before .before .before .before .before .args .plan .now) _ (c .number-at .ensures) (omega (arith, c .before .before .before .qs-at .ensures .is))) (c .before .before .loop .inv .1))
 
 returns : tie.Need-returns Inv-loop μ-loop
-returns c = copied-all (λ j. numberAt (c .before .before .before .before .before .args .plan .now) (qsAt (c .before .before .before .before .before .args .plan .now) + j)) (c .before .before .before .before .before .args .numbers .now) (c .before .loop .inv .1) (let e : c .before .loop .i ≡ c .before .before .before .qs-count .result = omega (arith, c .loop-test .left, c .before .loop .inv .0, c .before .before .before .qs-count .ensures .is) in e) (let e : c .before .loop .i ≡ qsCount (c .before .before .before .before .before .args .plan .now) = omega (arith, c .loop-test .left, c .before .loop .inv .0, c .before .before .before .qs-count .ensures .is) in e)
+returns c = (copied-all (λ j. numberAt (c .before .before .before .before .before .args .plan .now) (qsAt (c .before .before .before .before .before .args .plan .now) + j)) (c .before .before .before .before .before .args .numbers .now) (c .before .loop .inv .1) (let e : c .before .loop .i ≡ c .before .before .before .qs-count .result = omega (arith, c .loop-test .left, c .before .loop .inv .0, c .before .before .before .qs-count .ensures .is) in e) (let e : c .before .loop .i ≡ qsCount (c .before .before .before .before .before .args .plan .now) = omega (arith, c .loop-test .left, c .before .loop .inv .0, c .before .before .before .qs-count .ensures .is) in e), c .before .before .before .qs-count .ensures .low)
 
 pub fill-qs-spec : {M : Type 1} → statement M
 fill-qs-spec =

@@ -1,9 +1,8 @@
 -- `plan_tables::trees::put_tree` meets its contract. Assumes nothing.
 use native.Mathlib.Omega.{arith}
 use Rattle.plan_tables.specs.Tables.{treeWord}
-use Rattle.plan_tables.proofs.Sectioned.{put-below, put-above, put-in}
+use Rattle.plan_tables.specs.Sectioned.{put-below, put-above, put-in}
 use Rattle.plan_tables.proofs.Treed.{put-as}
-use borrow.Author.Needs.{needs}
 use Rattle.plan_tables.proofs.trees.put_tree.Statement.{statement}
 use Rattle.plan_tables.proofs.trees.put_tree.Tie as tie
 

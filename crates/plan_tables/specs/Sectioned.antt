@@ -1,6 +1,6 @@
 -- The numbers of the records in some sections, one record after the other. Assumes nothing.
-use Prim.Native.Nat.{ℕ, zero, suc, _+_, _<_, _≤_}
-use mathlib.Core.Path.{_≡_, refl, sym, _∙_, ap, subst}
+use Prim.Native.Nat.{ℕ, suc, _+_, _<_, _≤_}
+use mathlib.Core.Path.{_≡_, refl, sym, ap, subst}
 use mathlib.Core.Bool.{Bool, true, false, cond}
 use mathlib.Core.List.{List, [], _∷_, _++_}
 use native.Mathlib.Omega.{arith}
@@ -9,7 +9,7 @@ use lib.ListN.{length, getD, set, take}
 use lib.Seq.{take-suc, length-take-le}
 use Rattle.kinds.specs.Range.{within, within-in, within-below, within-above}
 use Rattle.plan_tables.specs.Tables.{numbersIn}
-use Rattle.plan_tables.specs.Listed.{Listed, Put, listed-none, listed-put}
+use Rattle.plan_tables.specs.Listed.{Listed, Put, listed-put}
 
 -- ---- one record
 
@@ -37,13 +37,10 @@ module _ (a b : ℕ) where
       by true h = omega arith
       by false h = omega arith
 
-  numbers-snoc : (k : ℕ) (ss : List ℕ) (s j : ℕ) → k + length ss ≡ j → numbersIn a b k (ss ++ (s ∷ [])) ≡ numbersIn a b k ss ++ cond (within a b s) (j ∷ []) []
+  pub numbers-snoc : (k : ℕ) (ss : List ℕ) (s j : ℕ) → k + length ss ≡ j → numbersIn a b k (ss ++ (s ∷ [])) ≡ numbersIn a b k ss ++ cond (within a b s) (j ∷ []) []
   numbers-snoc k [] s j e = let q : k ≡ j = omega arith in rw q
   numbers-snoc k (x ∷ ss) s j e = by (within a b x) (numbers-snoc (suc k) ss s j (omega arith))
     where
-      end : List ℕ
-      end = cond (within a b s) (j ∷ []) []
-
       by :
           (c : Bool) → numbersIn a b (suc k) (ss ++ (s ∷ [])) ≡ numbersIn a b (suc k) ss ++ cond (within a b s) (j ∷ []) [] →
           cond c (k ∷ numbersIn a b (suc k) (ss ++ (s ∷ []))) (numbersIn a b (suc k) (ss ++ (s ∷ []))) ≡ cond c (k ∷ numbersIn a b (suc k) ss) (numbersIn a b (suc k) ss) ++ cond (within a b s) (j ∷ []) []
