@@ -22,10 +22,10 @@ use Rattle.planning.specs.declared.answer.Plan.{Plan}
 use Rattle.planning.specs.declared.answer.Planning.{Planning}
 use Rattle.planning.specs.declared.answer.Planning.the-variants as planning
 use Rattle.plan_walks.specs.Walks.{lastDomain, goodSegment, Walked, walkSays, listsAfter, Does, WalkIs}
-use Rattle.plan_walks.specs.Standing.{Standing, plannedIn}
-use Rattle.plan_walks.specs.Fix.{Tabled}
+use Rattle.plan_walks.specs.Standing.{Standing, plannedIn, Tabled}
 use Rattle.plan_walks.specs.declared.walk.Walk.{Walk}
 use Rattle.plan_walks.specs.declared.walk.Walk.the-variants as walk
+use Rattle.plan_walks.proofs.Dims.{dims-room, dims-are}
 
 -- ---- the segment
 
@@ -90,6 +90,14 @@ module _ {s b : List ℕ} {own : Bool} {w x table ss ds cs : List ℕ} {r : Plan
     pub in-tables : (e : length table ≡ numberLimit) → Tabled (standing e) ss (k .records)
     unfolding standing
     in-tables e = record { sectionsIs = refl; recordsIs = refl }
+
+    pub dims-in : (e : length table ≡ numberLimit) → take (k .records) ds ≡ plannedIn (standing e) .mapping .dims
+    unfolding standing
+    dims-in e = dims-are (standing e)
+
+    pub dims-fit : length table ≡ numberLimit → k .records ≤ length ds
+    unfolding standing
+    dims-fit e = dims-room (standing e)
 
     answered : (e : length table ≡ numberLimit) → g .answer ≡ done (plannedIn (standing e))
     unfolding standing

@@ -24,8 +24,9 @@ use Rattle.fixing.specs.ProverCode.{temporaries, proverVerdict, listAfter}
 use Rattle.fixing.specs.Answers.{ProverCodeIs, fixedOf, fixedSays}
 use Rattle.fixing.specs.declared.fix_prover_code.Fixed.{Fixed}
 use Rattle.plan_walks.specs.Walks.{walked, ruled, walkSays, listsAfter, Does}
-use Rattle.plan_walks.specs.Standing.{Standing, tables, plannedIn}
-use Rattle.plan_walks.specs.Fix.{cmsOf, rulesIn, fixWith, fixBy, CmsAsked, CmsGiven, Tabled}
+use Rattle.plan_walks.specs.Standing.{Standing, tables, plannedIn, Tabled}
+use Rattle.plan_walks.specs.Cms.{cmsOf, CmsAsked, CmsGiven}
+use Rattle.plan_walks.specs.Fix.{rulesIn, fixWith, fixBy}
 use Rattle.plan_walks.specs.declared.walk.Walk.{Walk}
 
 -- ---- tables of a plan
