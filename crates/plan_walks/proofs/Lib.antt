@@ -2,3 +2,4 @@
 pub mod Fixes
 pub mod Entries
 pub mod Dims
+pub mod Queries

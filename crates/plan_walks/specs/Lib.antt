@@ -4,3 +4,4 @@ pub mod Standing
 pub mod Cms
 pub mod Fix
 pub mod Dimension
+pub mod Query

@@ -2,4 +2,5 @@
 mod cms;
 pub mod dimension;
 pub mod fix;
+pub mod query;
 pub mod walk;
