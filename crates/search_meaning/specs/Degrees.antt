@@ -2,6 +2,7 @@
 -- Assumes nothing: these are definitions.
 use Prim.Native.Nat.{ℕ, zero, suc, _+_, max}
 use mathlib.Core.Option.{Option, none, some}
+use lib.ListN.{length}
 use Rattle.meaning.specs.Trees.{RowKind, FlatKind, XKind, Op, Leaf, Expr, Expression, Forest, nth}
 
 -- a value that is no polynomial, an evaluation, a column, a kind that has no degree, an expression
@@ -67,3 +68,7 @@ fullIn f (some x) = full f (x .tree)
 abbrev pub fullOf : Forest → ℕ → ℕ → Option ℕ
 fullOf E zero e = none
 fullOf E (suc n) e = fullIn (fullOf E n) (nth E e)
+
+-- Expressions that form no cycle have at most as many levels as there are expressions.
+unfoldable pub fullTable : Forest → ℕ → Option ℕ
+fullTable E e = fullOf E (length E) e

@@ -1,4 +1,5 @@
 -- What the degree search means.
 pub mod Degrees
+pub mod Levels
 pub mod Search
 pub mod SearchExamples

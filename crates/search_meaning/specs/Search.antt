@@ -8,7 +8,7 @@ use lib.Dec.{eqb, ltb, leb}
 use lib.ListN.{length}
 use Rattle.meaning.specs.Refusals.{Refusal, Answer}
 use Rattle.meaning.specs.Trees.{Op, FlatKind, Leaf, Expr, Expression, Forest, nth}
-use Rattle.search_meaning.specs.Degrees.{Class, classOf, full, fullOf}
+use Rattle.search_meaning.specs.Degrees.{Class, classOf, full, fullTable}
 
 -- ── sets of expression numbers: ascending lists ──────────────────────────────
 abbrev pub member : ℕ → List ℕ → Bool
@@ -233,7 +233,7 @@ onward (refused r v) f = Answer.refused r none
 abbrev pub tries : Option ℕ → Forest → Expr → ℕ → ℕ → Found → ℕ → Answer Choice
 tries limit E c zero d kept v = finish kept v
 tries limit E c (suc n) d kept v =
-    onward (candidate limit E d (fullOf E (length E)) (length E) c v) (λ x. tries limit E c n (d + 1) (keep kept x))
+    onward (candidate limit E d (fullTable E) (length E) c v) (λ x. tries limit E c n (d + 1) (keep kept x))
 
 -- ── the identities ───────────────────────────────────────────────────────────
 abbrev pub identityLeaf : ℕ → Expr

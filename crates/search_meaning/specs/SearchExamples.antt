@@ -7,6 +7,7 @@ use mathlib.Core.Option.{none, some}
 use mathlib.Core.List.{List, [], _∷_}
 use Rattle.meaning.specs.Refusals.{Refusal, Answer}
 use Rattle.meaning.specs.Trees.{lit, RowKind, FlatKind, XKind, Op, OpC, Leaf, Expr, Expression, Forest, Each}
+use Rattle.search_meaning.specs.Degrees.{fullTable}
 use Rattle.search_meaning.specs.Search.{Choice, search}
 
 pub record Example : Type 0 where
@@ -68,7 +69,7 @@ table =
 
 -- THE EXAMPLES MARKED P
 pub examples : Each Right table
-unfolding answered search
+unfolding answered search fullTable
 examples = (refl, (refl, (refl, (refl, (refl, (refl, tt))))))
 
 -- ── where the Rust surprises ─────────────────────────────────────────────────
@@ -94,7 +95,7 @@ replaced =
     ∷ []
 
 pub replaced-right : Each Right replaced
-unfolding answered search
+unfolding answered search fullTable
 replaced-right = (refl, (refl, (refl, (refl, tt))))
 
 -- 6 against 13 and 15 goes by the order of visits, and eval is refused only where it is visited
@@ -112,7 +113,7 @@ met =
     ∷ []
 
 pub met-right : Each Right met
-unfolding answered search
+unfolding answered search fullTable
 met-right = (refl, (refl, (refl, (refl, (refl, (refl, (refl, (refl, (refl, tt)))))))))
 
 abbrev addc : Expr → Expr
@@ -123,8 +124,8 @@ abbrev pub large : List Example
 large =
     record {
       trees =
-        Expr.binc 0 OpC.mulc (cm 0 · cm 1) (lit false 2) ∷ ex 0 ∷ addc (ex 1 · ex 0)
-        ∷ (plus (Expr.leaf 0 (Leaf.flat FlatKind.challenge 0)) (cm 0) · (ex 2 · Expr.leaf 0 (Leaf.x XKind.plainX))) ∷ [];
+          Expr.binc 0 OpC.mulc (cm 0 · cm 1) (lit false 2) ∷ ex 0 ∷ addc (ex 1 · ex 0)
+          ∷ (plus (Expr.leaf 0 (Leaf.flat FlatKind.challenge 0)) (cm 0) · (ex 2 · Expr.leaf 0 (Leaf.x XKind.plainX))) ∷ [];
       identities = 3 ∷ [];
       bits = 10;
       bitsExt = 13;
@@ -133,8 +134,8 @@ large =
     }
     ∷ record {
       trees =
-        (cm 0 · cm 1) ∷ (ex 0 · cm 2) ∷ plus (ex 0 · ex 0) (ex 1 · ex 0) ∷ (ex 2 · ex 0) ∷ addc (num 1)
-        ∷ ((ex 3 · ex 2) · (ex 2 · cm 3)) ∷ ((ex 3 · addc (num 1)) · (ex 4 · ex 5)) ∷ [];
+          (cm 0 · cm 1) ∷ (ex 0 · cm 2) ∷ plus (ex 0 · ex 0) (ex 1 · ex 0) ∷ (ex 2 · ex 0) ∷ addc (num 1)
+          ∷ ((ex 3 · ex 2) · (ex 2 · cm 3)) ∷ ((ex 3 · addc (num 1)) · (ex 4 · ex 5)) ∷ [];
       identities = 6 ∷ [];
       bits = 10;
       bitsExt = 13;
@@ -144,5 +145,5 @@ large =
     ∷ []
 
 pub large-right : Each Right large
-unfolding answered search
+unfolding answered search fullTable
 large-right = (refl, (refl, tt))
