@@ -11,11 +11,9 @@ use lib.Seq.{getD-set-same, getD-set-other}
 use borrow.Author.Tests.{lt-ltb, le-ltb}
 use Rattle.search_meaning.specs.Search.{Tally, counted}
 use Rattle.degree_rule.specs.Tallies.{tallyOf, Whole, Held, Entered, Cuts}
+use Rattle.degree_rule.specs.Laws.{held-same}
 
 module _ (t : List ℕ) (w : Whole t) where
-  pub held-same : Held t t
-  held-same = record { whole = w; limit = refl; degree = refl }
-
   -- a word before both limits
   pub held-set : (i v : ℕ) → i < 2 → Held t (set t i v)
   held-set i v h =
@@ -24,7 +22,7 @@ module _ (t : List ℕ) (w : Whole t) where
       record { whole = record { whole = length-set t i v ∙ w .whole; fits = omega (arith, a, w .fits) }; limit = a; degree = b }
 
   pub over : getD t 2 0 ≤ getD t 1 0 → Entered t false t
-  over h = record { may = sym (le-ltb _ _ h); is = refl; held = held-same }
+  over h = record { may = sym (le-ltb _ _ h); is = refl; held = held-same t w }
 
   pub counts : getD t 1 0 < getD t 2 0 → Entered t true (set t 1 (getD t 1 0 + 1))
   unfolding tallyOf
@@ -48,8 +46,4 @@ module _ (t : List ℕ) (w : Whole t) where
   unfolding tallyOf
   cut-less n h =
       let c : max (getD t 0 0) n ≡ getD t 0 0 = omega arith in
-      record { is = rw c; held = held-same }
-
--- one after the other
-pub held-then : {t t1 t2 : List ℕ} → Held t t1 → Held t1 t2 → Held t t2
-held-then a b = record { whole = b .whole; limit = b .limit ∙ a .limit; degree = b .degree ∙ a .degree }
+      record { is = rw c; held = held-same t w }

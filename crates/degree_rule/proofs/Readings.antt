@@ -20,7 +20,7 @@ use Rattle.degree_rule.specs.declared.reading.Reading.the-variants.{Degr
 use Rattle.degree_rule.specs.Tallies.{tallyOf, visitsIn, limitIn, Whole, Held, Entered}
 use Rattle.degree_rule.specs.Readings.{foundOf, saidOf, isDegree, refusedIn, settledIn, Passed, Betters}
 use Rattle.degree_rule.proofs.reading.Reading.{the-type}
-use Rattle.degree_rule.proofs.Counts.{held-same}
+use Rattle.degree_rule.specs.Laws.{held-same}
 
 -- ── by its tag, as a `let .. else` tells ─────────────────────────────────────
 pub no-degree : (r : Reading) → OneOf (1 ∷ 2 ∷ 3 ∷ []) (tagOf the-type r) → isDegree r ≡ false

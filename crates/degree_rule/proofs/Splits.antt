@@ -21,22 +21,10 @@ use Rattle.degree_rule.specs.declared.reading.Reading.the-variants.{Degr
 use Rattle.degree_rule.specs.Tallies.{tallyOf, Whole, Held}
 use Rattle.degree_rule.specs.Readings.{foundOf, saidOf, degreeIn, refusedIn, settledIn, Betters}
 use Rattle.degree_rule.specs.Visiting.{degreeOp, R, T, split, paired, Holds, Gives, AsksProduct, AsksPair}
-use Rattle.degree_rule.proofs.Counts.{held-same, held-then}
+use Rattle.degree_rule.specs.Laws.{held-same, held-then, calm-said, refused-said}
 use Rattle.degree_rule.proofs.Visits.{holds-next, rule-held}
 
--- ── readings that are not refused ────────────────────────────────────────────
-calm-said : (r : Reading) (s y : List ℕ) → refusedIn r ≡ false → saidOf r s y ≡ done (foundOf r s) (tallyOf y)
-calm-said (Degree n) s y h = refl
-calm-said Nothing s y h = refl
-calm-said BadKind s y h = absurd (let z : _≡_ {A = ℕ} 0 1 = cc in omega arith)
-calm-said OverLimit s y h = absurd (let z : _≡_ {A = ℕ} 0 1 = cc in omega arith)
-
-refused-said : (r : Reading) (s y : List ℕ) (f : Found → Search Found) → refusedIn r ≡ true → next (saidOf r s y) f ≡ saidOf r s y
-refused-said (Degree n) s y f h = absurd (let z : _≡_ {A = ℕ} 0 1 = cc in omega arith)
-refused-said Nothing s y f h = absurd (let z : _≡_ {A = ℕ} 0 1 = cc in omega arith)
-refused-said BadKind s y f h = refl
-refused-said OverLimit s y f h = refl
-
+-- ── one of two readings ──────────────────────────────────────────────────────
 one-of : (P : Reading → Type 0) {r a b : Reading} → (r ≡ a) ⊎ (r ≡ b) → P a → P b → P r
 one-of P (inl q) x y = subst P (sym q) x
 one-of P (inr q) x y = subst P (sym q) y

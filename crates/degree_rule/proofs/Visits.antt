@@ -33,7 +33,7 @@ use Rattle.degree_rule.specs.declared.reading.Reading.the-variants.{Degr
 use Rattle.degree_rule.specs.Tallies.{tallyOf, limitIn, Whole, Held, Entered, Cuts}
 use Rattle.degree_rule.specs.Readings.{foundOf, saidOf, degreeIn, isDegree, Passed}
 use Rattle.degree_rule.specs.Visiting.{columnIn, degreeOp, B, R, T, visited, readAt, split, paired, referenced, Holds, Gives, Asks, AsksProduct, AsksPair, AsksReference}
-use Rattle.degree_rule.proofs.Counts.{held-same, held-then}
+use Rattle.degree_rule.specs.Laws.{held-same, held-then, stuck, no-low, pair-said}
 use Rattle.degree_rule.proofs.Rules.{coded-none, coded-low, coded-high, free-is, rule-constant, rule-exp, rule-eval, rule-q, rule-quotient, rule-muladd, rule-column, rule-sum, rule-single, rule-mul}
 
 -- ── kinds ────────────────────────────────────────────────────────────────────
@@ -42,37 +42,6 @@ five k h a b = let z : k ≡ 4 → ⊥ = λ q. b (inl q) in omega arith
 
 pub twenty : (k : ℕ) → kind.exp ≤ k → (k ≡ kind.exp → ⊥) → ((k ≡ kind.muladd) ⊎ (k ≡ kind.q) → ⊥) → kind.number ≤ k
 twenty k h a b = let z : k ≡ 19 → ⊥ = λ q. b (inr q) in omega arith
-
-pub not-taken : (b : Bool) → not b ≡ true → b ≡ false
-not-taken true h = sym h
-not-taken false h = refl
-
-pub not-left : (b : Bool) → not b ≡ false → b ≡ true
-not-left true h = refl
-not-left false h = sym h
-
--- ── readings ─────────────────────────────────────────────────────────────────
--- what gave no degree goes on as it is
-pub stuck : (r : Reading) (s y : List ℕ) (f : Found → Search Found) → isDegree r ≡ false → ((k : Tally) → f none k ≡ done none k) → next (saidOf r s y) f ≡ saidOf r s y
-stuck (Degree n) s y f h g = absurd (let z : _≡_ {A = ℕ} 0 1 = cc in omega arith)
-stuck Nothing s y f h g = g (tallyOf y)
-stuck BadKind s y f h g = refl
-stuck OverLimit s y f h g = refl
-
-pub no-low : (r : Reading) (m : ℕ) → isDegree r ≡ false → degreeIn r ≤ m
-no-low (Degree n) m h = absurd (let z : _≡_ {A = ℕ} 0 1 = cc in omega arith)
-no-low Nothing m h = omega arith
-no-low BadKind m h = omega arith
-no-low OverLimit m h = omega arith
-
--- two one after the other, of which the second follows the first
-pair-said :
-    (δ : ℕ → ℕ → ℕ) (q : Reading) (s y : List ℕ) (W : Found → Search Found) →
-    next (saidOf q s y) (λ x k. next (W x k) (λ z k′. done (both δ x z) k′)) ≡ next (next (saidOf q s y) W) (λ z k. done (both δ (foundOf q s) z) k)
-pair-said δ (Degree n) s y W = refl
-pair-said δ Nothing s y W = refl
-pair-said δ BadKind s y W = refl
-pair-said δ OverLimit s y W = refl
 
 -- ── what holds, after a call ─────────────────────────────────────────────────
 pub holds-next : {t : Tables} {f s y : List ℕ} {m : ℕ} → Holds t f s y m → {s1 y1 : List ℕ} → Good s1 → Held y y1 → {m1 : ℕ} → m1 ≤ getD y 3 0 → Holds t f s1 y1 m1

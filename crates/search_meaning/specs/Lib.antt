@@ -2,4 +2,5 @@
 pub mod Degrees
 pub mod Levels
 pub mod Search
+pub mod Fold
 pub mod SearchExamples

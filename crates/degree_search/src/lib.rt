@@ -1,0 +1,2 @@
+// `calculate_im_pols` and the choice among its candidates: the degree search over an admitted pool, and from frames.
+pub mod candidate;
