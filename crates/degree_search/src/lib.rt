@@ -1,2 +1,4 @@
 // `calculate_im_pols` and the choice among its candidates: the degree search over an admitted pool, and from frames.
 pub mod candidate;
+pub mod choose;
+pub mod keep;
