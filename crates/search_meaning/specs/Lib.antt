@@ -3,4 +3,6 @@ pub mod Degrees
 pub mod Levels
 pub mod Search
 pub mod Fold
+pub mod Unlimited
+pub mod SearchExactly
 pub mod SearchExamples
