@@ -2,4 +2,7 @@
 pub mod Degrees
 pub mod Levels
 pub mod Search
+pub mod Fold
+pub mod Unlimited
+pub mod SearchExactly
 pub mod SearchExamples
