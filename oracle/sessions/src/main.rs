@@ -4,14 +4,19 @@
 mod edges;
 mod evaluation;
 mod library;
+#[cfg(test)]
+mod plan_edges;
 mod planned;
 mod record;
 #[cfg(test)]
 mod refusals;
+#[cfg(test)]
+mod search_edges;
 mod searched;
 mod session;
 mod spoiled;
 mod spread;
+mod stack;
 
 use judge::pool::MAX_NODES;
 use judge::random;
@@ -29,6 +34,7 @@ sessions SEED COUNT             compares the exported functions with the origina
 sessions evaluate SEED COUNT    evaluates COUNT first lists and compares the cells with the trees
 sessions plans SEED COUNT       compares the walks over lists by COUNT random plans with the original
 sessions searches SEED COUNT    compares COUNT random degree searches with the original
+sessions stack                  prints how much stack the walks and the search need on the deepest pools
 
 A session is a pool with requests, some asking for results, and builds, from a fresh context. A
 refused call must leave all that was lent as it was; the original is put back to before it, and
@@ -57,6 +63,10 @@ const HUNDREDS: usize = 300;
 fn main() -> ExitCode {
     let words: Vec<String> = env::args().skip(1).collect();
     let words: Vec<&str> = words.iter().map(String::as_str).collect();
+    if words == ["stack"] {
+        stack::print();
+        return ExitCode::SUCCESS;
+    }
     let (compare, seed, count): (fn(u64, u64) -> Result<ExitCode, String>, _, _) = match words[..] {
         ["plans", seed, count] => (compare_plans, seed, count),
         ["searches", seed, count] => (compare_searches, seed, count),

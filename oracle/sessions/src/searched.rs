@@ -50,8 +50,7 @@ fn answer(search: &Search) -> Result<Answer, String> {
     let identities: Vec<u64> = search.identities.iter().map(|&e| e.into()).collect();
     let bits = [search.n_bits.into(), search.n_bits_ext.into()];
     let (mut chosen, mut found) = ([UNWRITTEN; SET_WORDS], [UNWRITTEN; 2]);
-    let number =
-        library::search(&frames, &identities, bits, search.limit, &mut chosen, &mut found);
+    let number = library::search(&frames, &identities, bits, search.limit, &mut chosen, &mut found);
     if number == 0 {
         let [q, visits] = found;
         return Ok(Answer::Found(Found { set: members(&chosen), q: q as usize, visits }));

@@ -26,13 +26,8 @@ pub enum Fault {
 
 const OF_STEPS: [Fault; 4] = [Fault::CutList, Fault::Kind, Fault::Prime, Fault::SourceCount];
 const OF_FIX: [Fault; 2] = [Fault::Domain, Fault::Counter];
-const OF_ANY: [Fault; 5] = [
-    Fault::LongList,
-    Fault::ShortPlan,
-    Fault::LongPlan,
-    Fault::ShortFrames,
-    Fault::GarbageFrames,
-];
+const OF_ANY: [Fault; 5] =
+    [Fault::LongList, Fault::ShortPlan, Fault::LongPlan, Fault::ShortFrames, Fault::GarbageFrames];
 
 const NO_KINDS: [u8; 6] = [0, 1, 7, 0x1b, 0x29, u8::MAX];
 const NO_DOMAINS: [u8; 2] = [2, u8::MAX];
