@@ -16,7 +16,12 @@ struct Places {
 
 impl Places {
     fn new(random: &mut Random, expressions: usize) -> Places {
-        let most = random.pick(&[expressions + 3, 66, 200, MAX_EXPRESSIONS, MAX_EXPRESSIONS]);
+        let most = match random.below(6) {
+            0 => expressions + 3,
+            1 => 66,
+            2 => 200,
+            _ => MAX_EXPRESSIONS,
+        };
         let all = most.clamp(expressions, MAX_EXPRESSIONS);
         let mut of = Vec::new();
         for place in 0..all {
@@ -116,4 +121,52 @@ pub fn search(random: &mut Random, search: &Search) -> Search {
     let mut identities = search.identities.clone();
     identities.iter_mut().for_each(|identity| places.move_to(identity));
     Search { pool, identities, ..search.clone() }
+}
+
+#[cfg(test)]
+mod tests {
+    use crate::{planned, searched};
+    use judge::run::on_large_stack;
+    use plans::question as plan_question;
+    use searches::question as search_question;
+
+    const SEED: u64 = 3;
+    const COUNT: u64 = 1000;
+
+    #[test]
+    fn spread_plans_are_accepted_and_large() {
+        let mut records = Vec::new();
+        for index in 0..COUNT {
+            let answers = || {
+                let questions = planned::questions(SEED, index)?;
+                questions.iter().map(|asked| plan_question::ask(&asked.question)).collect()
+            };
+            let answers: Vec<plan_question::Answer> = on_large_stack(answers).unwrap();
+            if let plan_question::Answer::Mapped(mapped) = &answers[0] {
+                records.push(mapped.records.len());
+            }
+        }
+        assert!(records.len() as u64 > COUNT / 2, "{:?}", records);
+        assert!(records.contains(&4095) || records.contains(&4096), "{:?}", records);
+    }
+
+    #[test]
+    fn sets_of_spread_searches_have_large_members() {
+        let mut members = Vec::new();
+        for index in 0..COUNT {
+            let answers = || {
+                let questions = searched::questions(SEED, index).into_iter();
+                questions.map(|asked| search_question::ask(&asked.question)).collect()
+            };
+            let answers: Vec<search_question::Answer> = on_large_stack(answers).unwrap();
+            for answer in answers {
+                if let search_question::Answer::Found(found) = answer {
+                    members.extend(found.set);
+                }
+            }
+        }
+        for word in 0..8 {
+            assert!(members.iter().any(|member| member / 64 == word), "{:?}", members);
+        }
+    }
 }
