@@ -1,0 +1,2 @@
+// `map`: from frames and a plan's record to its whole answer.
+mod put;
