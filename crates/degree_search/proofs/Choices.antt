@@ -12,7 +12,7 @@ use denote.Enum.Declared.{tagOf}
 use lib.ListN.{length, getD}
 use Rattle.meaning.specs.Refusals.{Answer}
 use Rattle.meaning.specs.Trees.{Forest}
-use Rattle.search_meaning.specs.Search.{Found, keep, candidate, finish, Choice, onward, tries}
+use Rattle.search_meaning.specs.Search.{Found, keep, candidate, finish, Choice, onward, folds, tries}
 use Rattle.pool.specs.Trees.{forest}
 use Rattle.pool.specs.Tabled.{Tables, tabled}
 use Rattle.pool.specs.Laws.Tabled.{expression-count}
@@ -26,7 +26,7 @@ use Rattle.degree_rule.specs.Tallies.{tallyOf, Whole}
 use Rattle.degree_rule.specs.Readings.{foundOf, saidOf, refusedIn}
 use Rattle.degree_rule.specs.Laws.{calm-said}
 use Rattle.degree_rule.proofs.reading.Reading.{the-type}
-use Rattle.degree_search.specs.Candidates.{Reads, AsksAll, folds}
+use Rattle.degree_search.specs.Candidates.{Reads, AsksAll}
 use Rattle.degree_search.specs.Choosing.{Keeps, Fresh, Ready, Asks, Tells}
 use Rattle.degree_search.specs.declared.choose.Searched.{Searched}
 use Rattle.degree_search.specs.declared.choose.Searched.the-variants as searched

@@ -14,7 +14,7 @@ use borrow.Author.Tests.{le-leb, lt-leb, leb-true, leb-false, lt-ltb, le-ltb, lt
 use Rattle.meaning.specs.Refusals.{Refusal, Answer, done, refused, _then_}
 use Rattle.meaning.specs.Trees.{Forest}
 use Rattle.meaning.specs.Laws.Tests.{done-same, done-not-refused, true-false}
-use Rattle.search_meaning.specs.Search.{Choice, bitsOk, allBelow, unless, tries, search}
+use Rattle.search_meaning.specs.Search.{Choice, bitsOk, allBelow, unless, folds, tries, search}
 use Rattle.frames.specs.Order.{Input, nothing, blameAnswer}
 use Rattle.frames.specs.Tables as frames
 use Rattle.frames.specs.Tables.{inputIn}
@@ -38,7 +38,6 @@ use Rattle.pool.specs.declared.admit.Verdict as admit
 use Rattle.pool.specs.Laws.Forest.{forest-size, acyclic-ranked}
 use Rattle.pool.specs.Laws.Tabled.{expression-count}
 use Rattle.full_degrees.specs.Table.{World, Fulls}
-use Rattle.degree_search.specs.Candidates.{folds}
 use Rattle.degree_search.specs.Choosing.{Asks, searchedSays, SetAfter, Tells}
 use Rattle.degree_search.specs.Searching.{Question, asking, searched, Answers, Runs, PoolAsked, PoolGiven, RunIs}
 use Rattle.degree_search.specs.declared.choose.Searched.{Searched}

@@ -28,7 +28,7 @@ abbrev pub close : Out Found → Answer Choice
 close (done x k) = finish x (k .visits)
 close (refused r v) = Answer.refused r none
 
-tries-are : (limit : Option ℕ) (E : Forest) (c : Expr) (n d : ℕ) (kept : Found) (v : ℕ) → tries limit E c n d kept v ≡ close (tryAll limit E c n d kept v)
+pub tries-are : (limit : Option ℕ) (E : Forest) (c : Expr) (n d : ℕ) (kept : Found) (v : ℕ) → tries limit E c n d kept v ≡ close (tryAll limit E c n d kept v)
 tries-are limit E c zero d kept v = refl
 tries-are limit E c (suc n) d kept v = go (tries-are limit E c n (d + 1)) (candidate limit E d (fullTable E) (length E) c v)
   where
@@ -127,7 +127,7 @@ module _ (limit : Option ℕ) (E : Forest) (c : Expr) where
 -- ── the limit ────────────────────────────────────────────────────────────────
 module _ (E : Forest) (acyclic : Acyclic E) (m : ℕ) where
   -- the leaves of the folded identities lead to expressions that are there
-  abbrev There : Placed → Type 0
+  abbrev pub There : Placed → Type 0
   There (l at n) = (e a : ℕ) → l ≡ Leaf.exp e a → e < length E
 
   nth-there : (l : Forest) (n : ℕ) → n < length l → (x : Expression) × (nth l n ≡ some x)
