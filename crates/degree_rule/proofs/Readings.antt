@@ -1,24 +1,24 @@
 -- Readings: after one that gave no degree, the better of two, and whether the best adds no member.
 -- Assumes nothing.
-use Prim.Native.Nat.{ℕ, _+_, _<_, _≤_}
+use Prim.Native.Nat.{ℕ, _<_, _≤_}
 use mathlib.Core.Path.{_≡_, refl, sym, _∙_, ap, subst}
 use mathlib.Core.Bool.{Bool, true, false, cond}
 use mathlib.Core.Option.{none, some}
 use mathlib.Core.List.{List, [], _∷_}
-use mathlib.Core.Logic.{_⊎_, inl, inr}
+use mathlib.Core.Logic.{inl, inr}
 use native.Mathlib.Omega.{arith}
 use types.Run.{OneOf}
 use denote.Enum.Declared.{tagOf}
-use lib.Dec.{eqb, ltb}
-use lib.ListN.{length, getD}
+use lib.Dec.{eqb}
+use lib.ListN.{length}
 use borrow.Author.Tests.{ne-eqb, lt-ltb, le-ltb}
 use Rattle.meaning.specs.Refusals.{Refusal}
-use Rattle.search_meaning.specs.Search.{Tally, Out, done, refused, next, counted, Found, found, setOf, Reads, visit, better, settled}
+use Rattle.search_meaning.specs.Search.{Tally, done, refused, counted, Found, found, Reads, visit, better, settled}
 use Rattle.sets.specs.Members.{members, Good}
 use Rattle.degree_rule.specs.declared.reading.Reading.{Reading}
 use Rattle.degree_rule.specs.declared.reading.Reading.the-variants.{Degree, Nothing, BadKind, OverLimit}
-use Rattle.degree_rule.specs.Tallies.{tallyOf, visitsIn, limitIn, Whole, Held, Entered}
-use Rattle.degree_rule.specs.Readings.{readingOf, foundOf, saidOf, degreeIn, isDegree, refusedIn, settledIn, Passed, Betters}
+use Rattle.degree_rule.specs.Tallies.{tallyOf, limitIn, Whole, Entered}
+use Rattle.degree_rule.specs.Readings.{readingOf, foundOf, degreeIn, isDegree, settledIn, Passed, Betters}
 use Rattle.degree_rule.proofs.reading.Reading.{the-type}
 use Rattle.degree_rule.specs.Laws.{held-same, reading-low}
 

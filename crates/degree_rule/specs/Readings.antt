@@ -1,16 +1,16 @@
 -- What a reading says, with the set and the tally that stand beside it.
 -- Assumes nothing: these are definitions.
-use Prim.Native.Nat.{ℕ, _≤_}
+use Prim.Native.Nat.{ℕ}
 use mathlib.Core.Path.{_≡_}
 use mathlib.Core.Bool.{Bool, true, false, cond}
-use mathlib.Core.Option.{none, some}
+use mathlib.Core.Option.{none}
 use mathlib.Core.List.{List}
 use mathlib.Core.Logic.{_⊎_}
 use lib.Dec.{eqb, ltb}
 use Rattle.meaning.specs.Refusals.{Refusal}
 use Rattle.search_meaning.specs.Search.{Out, done, refused, next, Found, found, setOf, Reads, visit, better, settled}
 use Rattle.sets.specs.Members.{members, Good}
-use Rattle.degree_rule.specs.Tallies.{tallyOf, visitsIn, limitIn, Held}
+use Rattle.degree_rule.specs.Tallies.{tallyOf, limitIn, Held}
 use Rattle.degree_rule.specs.declared.reading.Reading.{Reading}
 use Rattle.degree_rule.specs.declared.reading.Reading.the-variants.{Degree, Nothing, BadKind, OverLimit}
 

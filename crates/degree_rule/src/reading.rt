@@ -5,7 +5,7 @@ use sets::SET_WORDS;
 use sets::size;
 ghost use mathlib.Core.Path.{_≡_};
 ghost use Prim.Native.Nat.{_≤_};
-ghost use Rattle.sets.specs.Members.{members, Good};
+ghost use Rattle.sets.specs.Members.{Good};
 ghost use Rattle.degree_rule.specs.Tallies.{Whole};
 ghost use Rattle.degree_rule.specs.Readings.{readingOf, degreeIn, refusedIn, settledIn, Betters, Passed};
 

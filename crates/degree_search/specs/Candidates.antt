@@ -7,7 +7,7 @@ use mathlib.Core.Option.{some}
 use mathlib.Core.List.{List, []}
 use lib.ListN.{length, getD}
 use Rattle.meaning.specs.Refusals.{Refusal}
-use Rattle.search_meaning.specs.Search.{Out, done, refused, Search, next, Found, found, candidate, folds}
+use Rattle.search_meaning.specs.Search.{Out, refused, Search, next, Found, found, candidate, folds}
 use Rattle.search_meaning.specs.Fold.{ticks, identity, identities}
 use Rattle.pool.specs.Trees.{forest}
 use Rattle.pool.specs.Tabled.{Tables, tabled}
@@ -16,8 +16,8 @@ use Rattle.full_degrees.specs.Table.{World, F}
 use Rattle.sets.specs.Members.{members, Good}
 use Rattle.degree_rule.specs.declared.reading.Reading.{Reading}
 use Rattle.degree_rule.specs.declared.reading.Reading.the-variants.{Degree, Nothing, BadKind, OverLimit}
-use Rattle.degree_rule.specs.Tallies.{tallyOf, Whole, Held}
-use Rattle.degree_rule.specs.Readings.{saidOf, degreeIn}
+use Rattle.degree_rule.specs.Tallies.{tallyOf, Held}
+use Rattle.degree_rule.specs.Readings.{saidOf}
 use Rattle.degree_rule.specs.Visiting.{B, Holds}
 
 abbrev pub topIn : Reading → ℕ → Reading

@@ -1,11 +1,10 @@
 -- ONLY ONE ANSWER FITS a pool and a question, and what was read of any frames; and each number of a search from frames exactly when.
 -- Assumes nothing.
 use Prim.Native.Nat.{ℕ}
-use mathlib.Core.Path.{_≡_, refl, sym, _∙_, ap, subst}
-use mathlib.Core.Option.{Option, some}
+use mathlib.Core.Path.{_≡_, refl, sym, _∙_, ap}
 use mathlib.Core.List.{List, []}
 use mathlib.Core.Logic.{_↔_}
-use Rattle.meaning.specs.Refusals.{Refusal, Answer, done, refused, _then_, answerNo}
+use Rattle.meaning.specs.Refusals.{Answer, done, refused, _then_, answerNo}
 use Rattle.meaning.specs.Trees.{Acyclic}
 use Rattle.search_meaning.specs.Search.{Choice}
 use Rattle.search_meaning.specs.SearchCases.{Row, exactly}

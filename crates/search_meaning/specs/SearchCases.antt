@@ -11,9 +11,9 @@ use lib.Dec.{eqb, ltb, leb}
 use lib.ListN.{length}
 use borrow.Author.Tests.{eq-eqb, ne-eqb, eqb-true, eqb-false, le-leb, lt-leb, leb-true, leb-false, ltb-true}
 use Rattle.meaning.specs.Refusals.{Refusal, number, Answer, answerNo}
-use Rattle.meaning.specs.Trees.{FlatKind, Leaf, Expr, Forest, Placed, _at_, leaves, Each, Acyclic}
+use Rattle.meaning.specs.Trees.{FlatKind, Leaf, Expr, Forest, _at_, leaves, Each, Acyclic}
 use Rattle.meaning.specs.Laws.Tests.{true-false, each-join}
-use Rattle.search_meaning.specs.Search.{Tally, Out, done, refused, Read, Found, Choice, finishAt, finish, tries, identityLeaf, folded, foldMore, folds, allBelow, bitsOk, unless, search}
+use Rattle.search_meaning.specs.Search.{Tally, Out, done, refused, Read, Found, Choice, finishAt, tries, identityLeaf, folded, foldMore, folds, allBelow, bitsOk, unless, search}
 use Rattle.search_meaning.specs.Unlimited.{seen, OnlyKind, clip, clip-over, clip-under}
 use Rattle.search_meaning.specs.SearchExactly.{tryAll, close, tries-are, Given, NoneYields, kept-given, none-yields, yields-none, There, limited, only-kind}
 

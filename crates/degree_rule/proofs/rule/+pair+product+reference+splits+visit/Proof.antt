@@ -11,7 +11,7 @@ use Rattle.degree_rule.specs.Visiting.{AsksProduct}
 use Rattle.full_degrees.specs.Parts.{room}
 use Rattle.degree_rule.specs.Laws.{not-taken, not-left, no-low, to-code, as-read}
 use Rattle.degree_rule.proofs.Readings.{no-degree}
-use Rattle.degree_rule.proofs.Visits.{five, twenty, enter-asks, enter-over, lift, read-constant, read-bad, read-late, read-rest, sum-asks, read-sum, one-part, one-asks, read-one, exp-asks, read-exp, product-asks, pair-room, left-part, left-asks, pair-none, right-part, right-asks, second-none, sum-fits, times-code, larger-code, exp-room, some-levels, ref-low, ref-member, body-asks, ref-none, ref-kept, ref-cut, product-room, full-room, factor-left, factor-right, asks-left, asks-right, made-right, made-left, made-none, made-code, made-splits}
+use Rattle.degree_rule.proofs.Visits.{five, twenty, enter-asks, enter-over, lift, read-constant, read-bad, read-late, read-rest, sum-asks, read-sum, one-part, one-asks, read-one, exp-asks, read-exp, product-asks, pair-room, left-part, left-asks, pair-none, right-part, right-asks, second-none, sum-fits, times-code, larger-code, exp-room, some-levels, ref-low, ref-member, body-asks, ref-none, ref-kept, ref-cut, product-room, factor-left, factor-right, asks-left, asks-right, made-right, made-left, made-none, made-code, made-splits}
 use Rattle.degree_rule.proofs.Splits.{Going, going-first, end-gives, turn-asks, turn-refused, turn-settled, going-on}
 use Prim.Native.Nat.{ℕ, _<_}
 use borrow.Fn.Kinds.{In}

@@ -1,6 +1,5 @@
 -- `degree_search::candidate::identity` meets its contract. Assumes nothing.
 use mathlib.Core.Path.{refl}
-use native.Mathlib.Omega.{arith}
 use Rattle.degree_rule.specs.Laws.{not-taken, not-left, as-read}
 use Rattle.degree_rule.proofs.Readings.{no-degree}
 use Rattle.degree_search.proofs.Folds.{one-passed, one-over, one-asks, one-none, one-more}
