@@ -1,26 +1,26 @@
 -- Readings: after one that gave no degree, the better of two, and whether the best adds no member.
 -- Assumes nothing.
-use Prim.Native.Nat.{ℕ, _+_, _<_, _≤_}
+use Prim.Native.Nat.{ℕ, _<_, _≤_}
 use mathlib.Core.Path.{_≡_, refl, sym, _∙_, ap, subst}
 use mathlib.Core.Bool.{Bool, true, false, cond}
 use mathlib.Core.Option.{none, some}
 use mathlib.Core.List.{List, [], _∷_}
-use mathlib.Core.Logic.{_⊎_, inl, inr}
+use mathlib.Core.Logic.{inl, inr}
 use native.Mathlib.Omega.{arith}
 use types.Run.{OneOf}
 use denote.Enum.Declared.{tagOf}
-use lib.Dec.{eqb, ltb}
-use lib.ListN.{length, getD}
-use borrow.Author.Tests.{lt-ltb, le-ltb}
+use lib.Dec.{eqb}
+use lib.ListN.{length}
+use borrow.Author.Tests.{ne-eqb, lt-ltb, le-ltb}
 use Rattle.meaning.specs.Refusals.{Refusal}
-use Rattle.search_meaning.specs.Search.{Tally, Out, done, refused, next, counted, Found, found, setOf, Reads, visit, better, settled}
+use Rattle.search_meaning.specs.Search.{Tally, done, refused, counted, Found, found, Reads, visit, better, settled}
 use Rattle.sets.specs.Members.{members, Good}
 use Rattle.degree_rule.specs.declared.reading.Reading.{Reading}
 use Rattle.degree_rule.specs.declared.reading.Reading.the-variants.{Degree, Nothing, BadKind, OverLimit}
-use Rattle.degree_rule.specs.Tallies.{tallyOf, visitsIn, limitIn, Whole, Held, Entered}
-use Rattle.degree_rule.specs.Readings.{foundOf, saidOf, isDegree, refusedIn, settledIn, Passed, Betters}
+use Rattle.degree_rule.specs.Tallies.{tallyOf, limitIn, Whole, Entered}
+use Rattle.degree_rule.specs.Readings.{readingOf, foundOf, degreeIn, isDegree, settledIn, Passed, Betters}
 use Rattle.degree_rule.proofs.reading.Reading.{the-type}
-use Rattle.degree_rule.specs.Laws.{held-same}
+use Rattle.degree_rule.specs.Laws.{held-same, reading-low}
 
 -- ── by its tag, as a `let .. else` tells ─────────────────────────────────────
 pub no-degree : (r : Reading) → OneOf (1 ∷ 2 ∷ 3 ∷ []) (tagOf the-type r) → isDegree r ≡ false
@@ -94,3 +94,21 @@ settles-none kept best before h = sym (ap (λ x. settled x (members before)) (fo
 
 pub settles-by : {kept : Reading} {n : ℕ} → kept ≡ Degree n → (best before : List ℕ) {a b : ℕ} → a ≡ length (members best) → b ≡ length (members before) → eqb a b ≡ settledIn kept best before
 settles-by q best before x y = rw (q, x, y)
+
+-- ── as numbers ───────────────────────────────────────────────────────────────
+pub low-reads : (c : ℕ) → c < 18 → Degree c ≡ readingOf c
+low-reads c h = sym (reading-low c (omega arith))
+
+module _ (c : ℕ) (h : 18 ≤ c) where
+  pub nothing-reads : c ≡ 18 → Nothing ≡ readingOf c
+  nothing-reads q = rw q
+
+  module _ (n : c ≡ 18 → ⊥) where
+    pub bad-reads : c ≡ 19 → BadKind ≡ readingOf c
+    bad-reads q = rw q
+
+    pub over-reads : (c ≡ 19 → ⊥) → OverLimit ≡ readingOf c
+    over-reads u = rw (le-ltb c 18 h, ne-eqb c 18 n, ne-eqb c 19 u)
+
+pub degree-code : (r : Reading) {n : ℕ} → r ≡ Degree n → degreeIn r ≤ 17 → readingOf n ≡ r
+degree-code r {n} q h = reading-low n (subst (λ r. degreeIn r ≤ 17) q h) ∙ sym q

@@ -1,20 +1,20 @@
 -- The degree rule at a node of an admitted pool, by its kind.
 -- Assumes nothing.
-use Prim.Native.Nat.{ℕ, zero, suc, _+_, _-_, _<_, _≤_, min, max}
-use mathlib.Core.Path.{_≡_, refl, sym, _∙_, ap, ap₂, subst}
+use Prim.Native.Nat.{ℕ, _+_, _-_, _<_, _≤_, min, max}
+use mathlib.Core.Path.{_≡_, refl, sym, _∙_, ap}
 use mathlib.Core.Bool.{Bool, true, false, cond}
 use mathlib.Core.Option.{Option, none, some}
-use mathlib.Core.List.{List, []}
+use mathlib.Core.List.{List}
 use mathlib.Core.Logic.{_⊎_, inl, inr}
 use native.Mathlib.Omega.{arith}
-use lib.Dec.{eqb, ltb, leb}
-use borrow.Author.Tests.{ne-eqb, eqb-true, eqb-false, ltb-true, ltb-false, le-leb, lt-leb}
+use lib.Dec.{eqb, ltb}
+use borrow.Author.Tests.{eqb-true, eqb-false, ltb-true, ltb-false, lt-leb}
 use Rattle.meaning.specs.Refusals.{Refusal}
-use Rattle.meaning.specs.Trees.{Op, Leaf, Expr}
-use Rattle.search_meaning.specs.Degrees.{Class, classOf, full}
+use Rattle.meaning.specs.Trees.{Expr}
+use Rattle.search_meaning.specs.Degrees.{Class, full}
 use Rattle.search_meaning.specs.Search.{Tally, Out, done, refused, Search, Found, found, Reads, visit, pair, splits, leafRule, product, rule, free, isConstant}
 use Rattle.kinds.specs.KindBytes as kind
-use Rattle.kinds.specs.Range.{within, within-in, within-below, within-above}
+use Rattle.kinds.specs.Range.{within, within-below}
 use Rattle.frames.specs.Tables.{kindIn, idIn}
 use Rattle.pool.specs.Words.{c0In, c1In}
 use Rattle.pool.specs.Shaped.{Shaped}
@@ -22,9 +22,6 @@ use Rattle.pool.specs.Trees.{tree}
 use Rattle.pool.specs.Tabled.{Tables, tabled}
 use Rattle.full_degrees.specs.Coded.{noDegree, coded}
 use Rattle.full_degrees.specs.Shapes.{Sum, plus, minus, Single, withLit, negated, classBy, Rest, by-exp, by-constant, by-eval, by-q, by-quotient, by-rest, sum-is, mul-is, muladd-is, single-is, leaf-at}
-use Rattle.degree_rule.specs.declared.reading.Reading.{Reading}
-use Rattle.degree_rule.specs.declared.reading.Reading.the-variants.{Degree, Nothing}
-use Rattle.degree_rule.specs.Visiting.{columnIn}
 
 -- ── a full degree as a byte ──────────────────────────────────────────────────
 pub coded-none : (o : Option ℕ) → coded o ≡ noDegree → o ≡ none
@@ -145,8 +142,3 @@ module _ (t : Tables) (shaped : Shaped (tabled t)) {i : ℕ} (there : i < t .nod
 
     pub rule-single : kind.addc ≤ k → k ≤ kind.neg → Here ≡ visit lim (rule lim f b (tree (tabled t) (c0In (t .nodes) i))) (some s) m y
     rule-single a c = single-rule lim f b s m y (single-is t shaped there a c)
-
-    pub rule-mul :
-        k ≡ kind.mul →
-        Here ≡ rule lim f b (Expr.bin i Op.mul (tree (tabled t) (c0In (t .nodes) i)) (tree (tabled t) (c1In (t .nodes) i))) s m y
-    rule-mul h = ap (λ x. rule lim f b x s m y) (mul-is t shaped there h)

@@ -1,26 +1,25 @@
 -- The ways to share a limit between the factors of a product: at the loop's head what is left to try, from the best so far, is all that there is.
 -- Assumes nothing.
-use Prim.Native.Nat.{ℕ, zero, suc, _+_, _-_, _*_, _<_, _≤_, max}
+use Prim.Native.Nat.{ℕ, suc, _+_, _-_, _<_, _≤_}
 use mathlib.Core.Path.{_≡_, refl, sym, _∙_, ap, ap₂, subst}
-use mathlib.Core.Bool.{Bool, true, false, cond}
-use mathlib.Core.Option.{Option, none, some}
-use mathlib.Core.List.{List, []}
+use mathlib.Core.Bool.{true, false, cond}
+use mathlib.Core.Option.{none, some}
+use mathlib.Core.List.{List}
 use mathlib.Core.Logic.{_⊎_, inl, inr}
 use native.Mathlib.Omega.{arith}
 use lib.ListN.{getD}
-use Rattle.search_meaning.specs.Search.{Tally, Out, done, refused, Search, next, Found, found, Reads, pair, splits, better, settled}
+use Rattle.search_meaning.specs.Search.{Tally, Out, done, Search, next, Found, pair, splits, better, settled}
 use Rattle.kinds.specs.KindBytes as kind
 use Rattle.frames.specs.Tables.{kindIn}
 use Rattle.pool.specs.Words.{c0In, c1In}
-use Rattle.pool.specs.Trees.{tree}
-use Rattle.pool.specs.Tabled.{Tables, tabled}
+use Rattle.pool.specs.Tabled.{Tables}
 use Rattle.pool.specs.Ranking.{Tabling}
 use Rattle.sets.specs.Members.{members, Good}
 use Rattle.degree_rule.specs.declared.reading.Reading.{Reading}
-use Rattle.degree_rule.specs.declared.reading.Reading.the-variants.{Degree, Nothing, BadKind, OverLimit}
-use Rattle.degree_rule.specs.Tallies.{tallyOf, Whole, Held}
+use Rattle.degree_rule.specs.declared.reading.Reading.the-variants.{Nothing}
+use Rattle.degree_rule.specs.Tallies.{tallyOf, Held}
 use Rattle.degree_rule.specs.Readings.{foundOf, saidOf, degreeIn, refusedIn, settledIn, Betters}
-use Rattle.degree_rule.specs.Visiting.{degreeOp, R, T, split, paired, Holds, Gives, AsksProduct, AsksPair}
+use Rattle.degree_rule.specs.Visiting.{degreeOp, T, split, paired, Gives, AsksProduct, AsksPair}
 use Rattle.degree_rule.specs.Laws.{held-same, held-then, calm-said, refused-said}
 use Rattle.degree_rule.proofs.Visits.{holds-next, rule-held}
 

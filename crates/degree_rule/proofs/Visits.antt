@@ -1,18 +1,16 @@
 -- Visits of a node: entering, what each kind reads, two children one after the other, an expression at a leaf, and a product up to its splits.
 -- Assumes nothing.
-use Prim.Native.Nat.{ℕ, zero, suc, _+_, _-_, _*_, _<_, _≤_, max}
+use Prim.Native.Nat.{ℕ, zero, suc, _+_, _-_, _<_, _≤_, max}
 use mathlib.Core.Path.{_≡_, refl, sym, _∙_, ap, ap₂, subst}
-use mathlib.Core.Bool.{Bool, true, false, not, cond}
-use mathlib.Core.Option.{Option, none, some}
-use mathlib.Core.List.{List, []}
+use mathlib.Core.Bool.{Bool, true, false, cond}
+use mathlib.Core.Option.{none, some}
+use mathlib.Core.List.{List}
 use mathlib.Core.Logic.{_⊎_, inl, inr}
 use native.Mathlib.Omega.{arith}
-use lib.Dec.{eqb, ltb, leb}
-use lib.ListN.{length, getD}
+use lib.Dec.{eqb, ltb}
+use lib.ListN.{getD}
 use borrow.Author.Tests.{ne-eqb, lt-ltb, le-ltb, le-leb, eqb-true, eqb-false, ltb-false}
 use Rattle.meaning.specs.Refusals.{Refusal}
-use Rattle.meaning.specs.Trees.{Op, Expr, nth}
-use Rattle.search_meaning.specs.Degrees.{Class, full}
 use Rattle.search_meaning.specs.Search.{Tally, Out, done, refused, Search, next, counted, Found, found, setOf, both, Reads, visit, pair, splits, cutBody, product, rule, reference, body, bodyIn, free, member, insert}
 use Rattle.kinds.specs.KindBytes as kind
 use Rattle.kinds.specs.Range.{within}
@@ -25,16 +23,16 @@ use Rattle.pool.specs.Tabled.{Tables, tabled}
 use Rattle.pool.specs.Ranking.{Tabling}
 use Rattle.full_degrees.specs.Coded.{noDegree, coded}
 use Rattle.full_degrees.specs.Shapes.{Rest, mul-is}
-use Rattle.full_degrees.specs.Table.{World, F, fullAt, Fulls}
-use Rattle.full_degrees.specs.Parts.{Stands, room, Part, left, right, only, named, lower, body-is, body-stands}
+use Rattle.full_degrees.specs.Table.{F, fullAt}
+use Rattle.full_degrees.specs.Parts.{room, Part, left, right, only, named, lower, body-is, body-stands}
 use Rattle.sets.specs.Members.{members, Good, Put}
 use Rattle.degree_rule.specs.declared.reading.Reading.{Reading}
 use Rattle.degree_rule.specs.declared.reading.Reading.the-variants.{Degree, Nothing, BadKind, OverLimit}
-use Rattle.degree_rule.specs.Tallies.{tallyOf, limitIn, Whole, Held, Entered, Cuts}
-use Rattle.degree_rule.specs.Readings.{foundOf, saidOf, degreeIn, isDegree, Passed}
+use Rattle.degree_rule.specs.Tallies.{tallyOf, Held, Entered, Cuts}
+use Rattle.degree_rule.specs.Readings.{readingOf, foundOf, saidOf, degreeIn, isDegree, Passed}
 use Rattle.degree_rule.specs.Visiting.{columnIn, degreeOp, B, R, T, visited, readAt, split, paired, referenced, Holds, Gives, Asks, AsksProduct, AsksPair, AsksReference}
-use Rattle.degree_rule.specs.Laws.{held-same, held-then, stuck, no-low, pair-said}
-use Rattle.degree_rule.proofs.Rules.{coded-none, coded-low, coded-high, free-is, rule-constant, rule-exp, rule-eval, rule-q, rule-quotient, rule-muladd, rule-column, rule-sum, rule-single, rule-mul}
+use Rattle.degree_rule.specs.Laws.{held-same, held-then, stuck, no-low, pair-said, reading-low, to-code}
+use Rattle.degree_rule.proofs.Rules.{coded-none, coded-low, coded-high, free-is, rule-constant, rule-exp, rule-eval, rule-q, rule-quotient, rule-muladd, rule-column, rule-sum, rule-single}
 
 -- ── kinds ────────────────────────────────────────────────────────────────────
 pub five : (k : ℕ) → kind.mul ≤ k → (k ≡ kind.mul → ⊥) → ((k ≡ kind.muladd) ⊎ (k ≡ kind.q) → ⊥) → kind.addc ≤ k
@@ -300,6 +298,12 @@ module _ {v l x : List ℕ} {c c′ : ℕ} {rank : ℕ → ℕ} {f s y : List �
               pub larger-gives : (k ≡ kind.mul → ⊥) → {d : ℕ} → d ≡ max d0 d1 → Gives (paired tab s y lo hi i) levels (δ lo hi) y s2 y2 (Degree d)
               larger-gives h e = both-gives (e ∙ sym (ap (λ b. cond b (d0 + d1) (max d0 d1)) (ne-eqb (kindIn v i) kind.mul (λ q. h (ke ∙ q)))))
 
+              pub times-code : k ≡ kind.mul → Gives (paired tab s y lo hi i) levels (δ lo hi) y s2 y2 (readingOf (d0 + d1))
+              times-code h = to-code (d0 + d1) (reading-low (d0 + d1) (sum-fits h)) (times-gives h)
+
+              pub larger-code : (k ≡ kind.mul → ⊥) → {d : ℕ} → d ≡ max d0 d1 → Gives (paired tab s y lo hi i) levels (δ lo hi) y s2 y2 (readingOf d)
+              larger-code h {d} e = to-code d (reading-low d (omega (arith, e, first-low, second-low, a .left .within, a .left .low, a .right))) (larger-gives h e)
+
 -- ── an expression at a leaf ──────────────────────────────────────────────────
 module _ {v l x : List ℕ} {c c′ : ℕ} {rank : ℕ → ℕ} {f s y : List ℕ} {levels m e : ℕ} (a : AsksReference (Tabling v l x c c′) rank f s y levels m e) where
   abbrev tb : Tables
@@ -374,9 +378,6 @@ module _ {v l x : List ℕ} {c c′ : ℕ} {rank : ℕ → ℕ} {f s y : List �
   pub product-room : i < nodeLimit
   product-room = room (a .asks .stands)
 
-  pub full-room : i < length f
-  full-room = rw (a .asks .holds .fulls .size) product-room
-
   module _ {j0 : ℕ} (q0 : j0 ≡ c0In v i) {j1 : ℕ} (q1 : j1 ≡ c1In v i) where
     pub factor-left : Part (a .asks .stands) j0
     factor-left = left (a .asks .stands) (omega (arith, a .is)) (omega (arith, a .is)) q0
@@ -440,6 +441,9 @@ module _ {v l x : List ℕ} {c c′ : ℕ} {rank : ℕ → ℕ} {f s y : List �
             low = h;
           }
 
+          pub made-code : {d : ℕ} → d ≡ w → d ≤ m → Made (readingOf d) s y
+          made-code {d} dq h = to-code d (reading-low d (omega (arith, h, a .asks .holds .low, a .asks .holds .within))) (made-low dq h)
+
           pub made-splits : (w ≡ noDegree → ⊥) → {d : ℕ} → d ≡ w → m < d → {s2 y2 : List ℕ} {r : Reading} → Gives (split ta s y m i) levels m y s2 y2 r → Made r s2 y2
           unfolding split
           made-splits u {d} dq h g = record {
@@ -454,8 +458,8 @@ module _ {v l x : List ℕ} {c c′ : ℕ} {rank : ℕ → ℕ} {f s y : List �
           }
 
 -- ── a column ─────────────────────────────────────────────────────────────────
-pub column-none : (m : ℕ) → m < 1 → Nothing ≡ columnIn m
+pub column-none : (m : ℕ) → m < 1 → readingOf 18 ≡ columnIn m
 column-none m h = rw (lt-ltb m 1 h)
 
-pub column-one : (m : ℕ) → 1 ≤ m → Degree 1 ≡ columnIn m
+pub column-one : (m : ℕ) → 1 ≤ m → readingOf 1 ≡ columnIn m
 column-one m h = rw (le-ltb m 1 h)

@@ -1,16 +1,18 @@
 -- Laws of readings and tallies that those who call the degree rule use too.
 -- Assumes nothing.
 use Prim.Native.Nat.{ℕ, _≤_}
-use mathlib.Core.Path.{_≡_, refl, sym, _∙_}
+use mathlib.Core.Path.{_≡_, refl, sym, _∙_, subst}
 use mathlib.Core.Bool.{Bool, true, false, not}
 use mathlib.Core.Option.{none}
 use mathlib.Core.List.{List}
 use native.Mathlib.Omega.{arith}
+use borrow.Author.Tests.{lt-ltb}
 use Rattle.search_meaning.specs.Search.{Tally, Out, done, refused, Search, next, Found, both}
 use Rattle.degree_rule.specs.declared.reading.Reading.{Reading}
 use Rattle.degree_rule.specs.declared.reading.Reading.the-variants.{Degree, Nothing, BadKind, OverLimit}
 use Rattle.degree_rule.specs.Tallies.{tallyOf, Whole, Held}
-use Rattle.degree_rule.specs.Readings.{foundOf, saidOf, degreeIn, isDegree, refusedIn}
+use Rattle.degree_rule.specs.Readings.{readingOf, foundOf, saidOf, degreeIn, isDegree, refusedIn}
+use Rattle.degree_rule.specs.Visiting.{Gives}
 
 -- ── tests ────────────────────────────────────────────────────────────────────
 pub not-taken : (b : Bool) → not b ≡ true → b ≡ false
@@ -64,3 +66,16 @@ refused-said (Degree n) s y f h = absurd (let z : _≡_ {A = ℕ} 0 1 = cc in om
 refused-said Nothing s y f h = absurd (let z : _≡_ {A = ℕ} 0 1 = cc in omega arith)
 refused-said BadKind s y f h = refl
 refused-said OverLimit s y f h = refl
+
+-- ── readings as numbers ──────────────────────────────────────────────────────
+pub reading-low : (n : ℕ) → n ≤ 17 → readingOf n ≡ Degree n
+reading-low n h = rw (lt-ltb n 18 (omega arith))
+
+-- what is given of a reading is given of its number
+pub to-code :
+    {says : ℕ → Out Found} {levels m : ℕ} {y s′ y′ : List ℕ} (c : ℕ) {r : Reading} → readingOf c ≡ r → Gives says levels m y s′ y′ r → Gives says levels m y s′ y′ (readingOf c)
+to-code {says} {levels} {m} {y} {s′} {y′} c q g = subst (Gives says levels m y s′ y′) (sym q) g
+
+pub as-read :
+    {says : ℕ → Out Found} {levels m : ℕ} {y s′ y′ : List ℕ} (c : ℕ) {r : Reading} → r ≡ readingOf c → Gives says levels m y s′ y′ (readingOf c) → Gives says levels m y s′ y′ r
+as-read {says} {levels} {m} {y} {s′} {y′} c q g = subst (Gives says levels m y s′ y′) (sym q) g

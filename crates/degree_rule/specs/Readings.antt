@@ -1,17 +1,22 @@
 -- What a reading says, with the set and the tally that stand beside it.
 -- Assumes nothing: these are definitions.
-use Prim.Native.Nat.{ℕ, _≤_}
+use Prim.Native.Nat.{ℕ}
 use mathlib.Core.Path.{_≡_}
-use mathlib.Core.Bool.{Bool, true, false}
-use mathlib.Core.Option.{none, some}
+use mathlib.Core.Bool.{Bool, true, false, cond}
+use mathlib.Core.Option.{none}
 use mathlib.Core.List.{List}
 use mathlib.Core.Logic.{_⊎_}
+use lib.Dec.{eqb, ltb}
 use Rattle.meaning.specs.Refusals.{Refusal}
 use Rattle.search_meaning.specs.Search.{Out, done, refused, next, Found, found, setOf, Reads, visit, better, settled}
 use Rattle.sets.specs.Members.{members, Good}
-use Rattle.degree_rule.specs.Tallies.{tallyOf, visitsIn, limitIn, Held}
+use Rattle.degree_rule.specs.Tallies.{tallyOf, limitIn, Held}
 use Rattle.degree_rule.specs.declared.reading.Reading.{Reading}
 use Rattle.degree_rule.specs.declared.reading.Reading.the-variants.{Degree, Nothing, BadKind, OverLimit}
+
+-- a reading as a number: a degree up to 17 stands for itself
+abbrev pub readingOf : ℕ → Reading
+readingOf c = cond (ltb c 18) (Degree c) (cond (eqb c 18) Nothing (cond (eqb c 19) BadKind OverLimit))
 
 abbrev pub foundOf : Reading → List ℕ → Found
 foundOf (Degree n) s = found (members s) n

@@ -1,6 +1,6 @@
 -- What is counted, as it stands in four words: the largest degree cut, the visits, the limit, the degree limit d.
 -- Assumes nothing: these are definitions.
-use Prim.Native.Nat.{ℕ, _+_, _<_, max}
+use Prim.Native.Nat.{ℕ, _<_, max}
 use mathlib.Core.Path.{_≡_}
 use mathlib.Core.Bool.{Bool, cond}
 use mathlib.Core.Option.{Option, some}
@@ -12,14 +12,8 @@ use Rattle.search_meaning.specs.Search.{Tally, counted}
 unfoldable pub tallyOf : List ℕ → Tally
 tallyOf t = record { cut = getD t 0 0; visits = getD t 1 0 }
 
-abbrev pub visitsIn : List ℕ → ℕ
-visitsIn t = getD t 1 0
-
 abbrev pub limitIn : List ℕ → Option ℕ
 limitIn t = some (getD t 2 0)
-
-abbrev pub degreeLimit : List ℕ → ℕ
-degreeLimit t = getD t 3 0
 
 -- four words, of 64 bits
 pub record Whole (t : List ℕ) : Type 0 where

@@ -3,11 +3,11 @@
 use Prim.Native.Nat.{ℕ, _+_, _<_, _≤_, max}
 use mathlib.Core.Path.{_≡_}
 use mathlib.Core.Bool.{cond}
-use mathlib.Core.Option.{Option, none, some}
+use mathlib.Core.Option.{none, some}
 use mathlib.Core.List.{List}
 use lib.Dec.{eqb, ltb}
 use lib.ListN.{getD}
-use Rattle.meaning.specs.Trees.{Expr, Forest}
+use Rattle.meaning.specs.Trees.{Expr}
 use Rattle.search_meaning.specs.Search.{Out, Search, Found, Reads, visit, pair, splits, rule, reference, body}
 use Rattle.kinds.specs.KindBytes as kind
 use Rattle.frames.specs.Tables.{kindIn}
@@ -21,7 +21,7 @@ use Rattle.sets.specs.Members.{members, Good}
 use Rattle.degree_rule.specs.Tallies.{tallyOf, Whole, Held}
 use Rattle.degree_rule.specs.Readings.{saidOf, degreeIn}
 use Rattle.degree_rule.specs.declared.reading.Reading.{Reading}
-use Rattle.degree_rule.specs.declared.reading.Reading.the-variants.{Degree, Nothing, BadKind, OverLimit}
+use Rattle.degree_rule.specs.declared.reading.Reading.the-variants.{Degree, Nothing}
 
 abbrev pub columnIn : ℕ → Reading
 columnIn m = cond (ltb m 1) Nothing (Degree 1)

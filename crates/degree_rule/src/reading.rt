@@ -4,9 +4,10 @@ use crate::tally::enter;
 use sets::SET_WORDS;
 use sets::size;
 ghost use mathlib.Core.Path.{_≡_};
-ghost use Rattle.sets.specs.Members.{members, Good};
+ghost use Prim.Native.Nat.{_≤_};
+ghost use Rattle.sets.specs.Members.{Good};
 ghost use Rattle.degree_rule.specs.Tallies.{Whole};
-ghost use Rattle.degree_rule.specs.Readings.{refusedIn, settledIn, Betters, Passed};
+ghost use Rattle.degree_rule.specs.Readings.{readingOf, degreeIn, refusedIn, settledIn, Betters, Passed};
 
 // The set that goes with a degree stands beside it, in the working set.
 pub enum Reading {
@@ -16,6 +17,40 @@ pub enum Reading {
     BadKind,
     // Refusal 15.
     OverLimit,
+}
+
+// A reading as a number, so that it comes back in a register: a degree stands for itself, and none is above 17.
+pub const NOTHING: u64 = 18;
+
+pub const BAD_KIND: u64 = 19;
+
+pub const OVER_LIMIT: u64 = 20;
+
+pub fn decode(code: u64) -> Reading
+    ensures { λ r. ⌜ r ≡ readingOf code ⌝ }
+{
+    if code < NOTHING {
+        return Reading::Degree(code);
+    }
+    if code == NOTHING {
+        return Reading::Nothing;
+    }
+    if code == BAD_KIND {
+        return Reading::BadKind;
+    }
+    Reading::OverLimit
+}
+
+pub fn encode(reading: Reading) -> u64
+    requires { ⌜ degreeIn reading ≤ 17 ⌝ }
+    ensures { λ r. ⌜ readingOf r ≡ reading ⌝ }
+{
+    match reading {
+        Reading::Degree(degree) => degree,
+        Reading::Nothing => NOTHING,
+        Reading::BadKind => BAD_KIND,
+        Reading::OverLimit => OVER_LIMIT,
+    }
 }
 
 pub fn is_refused(reading: Reading) -> bool

@@ -1,7 +1,12 @@
 // The degree rule, by the kind of a node. The working set and the tally go by reference, and a reading comes back, since the recursion is up to 4,096 nodes and 512
 // expressions deep; a set is copied only where a limit is split.
+use crate::reading::BAD_KIND;
+use crate::reading::NOTHING;
+use crate::reading::OVER_LIMIT;
 use crate::reading::Reading;
 use crate::reading::better;
+use crate::reading::decode;
+use crate::reading::encode;
 use crate::reading::is_refused;
 use crate::reading::passed;
 use crate::reading::settled;
@@ -25,6 +30,7 @@ ghost use mathlib.Core.Path.{_≡_};
 ghost use Prim.Native.Nat.{max};
 ghost use Rattle.kinds.specs.KindBytes.{number, challenge};
 ghost use Rattle.kinds.specs.Range.{within};
+ghost use Rattle.degree_rule.specs.Readings.{readingOf};
 ghost use Rattle.degree_rule.specs.Visiting.{columnIn, VisitAsked, VisitGiven, ProductAsked, ProductGiven, SplitsGiven, PairAsked, PairGiven, ReferenceAsked, ReferenceGiven};
 
 // A product with a number, a public value or a challenge is the other factor.
@@ -52,13 +58,13 @@ fn wide(byte: u8) -> u64
     byte as u64
 }
 
-fn column(m: u64) -> Reading
-    ensures { λ r. ⌜ r ≡ columnIn m ⌝ }
+fn column(m: u64) -> u64
+    ensures { λ r. ⌜ readingOf r ≡ columnIn m ⌝ }
 {
     if m < 1 {
-        return Reading::Nothing;
+        return NOTHING;
     }
-    Reading::Degree(1)
+    1
 }
 
 // One visit of the tree at node i, with a set, at the limit m. Its leaves lead to others to no more than so many levels of expressions.
@@ -71,12 +77,12 @@ pub fn visit(
     levels: usize,
     m: u64,
     i: usize,
-) -> Reading
+) -> u64
     requires { ⌜ VisitAsked (now nodes) (now expressions) (now full) (now set) (now tally) levels m i ⌝ }
-    ensures { λ r. ⌜ VisitGiven (now (nodes .entry)) (now (expressions .entry)) (now (full .entry)) (now (set .entry)) (now (tally .entry)) (now (set .exit)) (now (tally .exit)) levels m i r ⌝ }
+    ensures { λ r. ⌜ VisitGiven (now (nodes .entry)) (now (expressions .entry)) (now (full .entry)) (now (set .entry)) (now (tally .entry)) (now (set .exit)) (now (tally .exit)) levels m i (readingOf r) ⌝ }
 {
     if !enter(tally) {
-        return Reading::OverLimit;
+        return OVER_LIMIT;
     }
     match kind_at(nodes, i) {
         Kind::MUL => product(nodes, expressions, full, set, tally, levels, m, i),
@@ -90,14 +96,14 @@ pub fn visit(
             m,
             id(nodes, i),
         ),
-        Kind::MULADD | Kind::Q => Reading::BadKind,
+        Kind::MULADD | Kind::Q => BAD_KIND,
         Kind::ADD..=Kind::SUB => pair(nodes, expressions, full, set, tally, levels, m, m, i),
         Kind::ADDC..=Kind::NEG => {
             let only = child(nodes, i, 0);
             visit(nodes, expressions, full, set, tally, levels, m, only)
         }
-        Kind::NUMBER..=Kind::CHALLENGE => Reading::Degree(0),
-        Kind::EVAL..=Kind::X_DIV_X_SUB_WXI => Reading::BadKind,
+        Kind::NUMBER..=Kind::CHALLENGE => 0,
+        Kind::EVAL..=Kind::X_DIV_X_SUB_WXI => BAD_KIND,
         _ => column(m),
     }
 }
@@ -111,9 +117,9 @@ fn product(
     levels: usize,
     m: u64,
     i: usize,
-) -> Reading
+) -> u64
     requires { ⌜ ProductAsked (now nodes) (now expressions) (now full) (now set) (now tally) levels m i ⌝ }
-    ensures { λ r. ⌜ ProductGiven (now (nodes .entry)) (now (expressions .entry)) (now (full .entry)) (now (set .entry)) (now (tally .entry)) (now (set .exit)) (now (tally .exit)) levels m i r ⌝ }
+    ensures { λ r. ⌜ ProductGiven (now (nodes .entry)) (now (expressions .entry)) (now (full .entry)) (now (set .entry)) (now (tally .entry)) (now (set .exit)) (now (tally .exit)) levels m i (readingOf r) ⌝ }
 {
     let left = child(nodes, i, 0);
     let right = child(nodes, i, 1);
@@ -124,11 +130,11 @@ fn product(
         return visit(nodes, expressions, full, set, tally, levels, m, left);
     }
     if full[i] == NO_DEGREE {
-        return Reading::BadKind;
+        return BAD_KIND;
     }
     let degree = wide(full[i]);
     if degree <= m {
-        return Reading::Degree(degree);
+        return degree;
     }
     splits(nodes, expressions, full, set, tally, levels, m, i)
 }
@@ -143,9 +149,9 @@ fn splits(
     levels: usize,
     m: u64,
     i: usize,
-) -> Reading
+) -> u64
     requires { ⌜ ProductAsked (now nodes) (now expressions) (now full) (now set) (now tally) levels m i ⌝ }
-    ensures { λ r. ⌜ SplitsGiven (now (nodes .entry)) (now (expressions .entry)) (now (full .entry)) (now (set .entry)) (now (tally .entry)) (now (set .exit)) (now (tally .exit)) levels m i r ⌝ }
+    ensures { λ r. ⌜ SplitsGiven (now (nodes .entry)) (now (expressions .entry)) (now (full .entry)) (now (set .entry)) (now (tally .entry)) (now (set .exit)) (now (tally .exit)) levels m i (readingOf r) ⌝ }
 {
     let before = *set;
     let mut best = *set;
@@ -153,19 +159,20 @@ fn splits(
     let mut l = 0;
     while l <= m {
         *set = before;
-        let here = pair(nodes, expressions, full, set, tally, levels, l, m - l, i);
+        let both = pair(nodes, expressions, full, set, tally, levels, l, m - l, i);
+        let here = decode(both);
         if is_refused(here) {
-            return here;
+            return both;
         }
         kept = better(kept, &mut best, here, set);
         if settled(kept, &best, &before) {
             *set = best;
-            return kept;
+            return encode(kept);
         }
         l += 1;
     }
     *set = best;
-    kept
+    encode(kept)
 }
 
 // Both children one after the other, at the limits l and r. The degree is the sum of both in a product, else the larger.
@@ -179,24 +186,24 @@ fn pair(
     l: u64,
     r: u64,
     i: usize,
-) -> Reading
+) -> u64
     requires { ⌜ PairAsked (now nodes) (now expressions) (now full) (now set) (now tally) levels l r i ⌝ }
-    ensures { λ q. ⌜ PairGiven (now (nodes .entry)) (now (expressions .entry)) (now (full .entry)) (now (set .entry)) (now (tally .entry)) (now (set .exit)) (now (tally .exit)) levels l r i q ⌝ }
+    ensures { λ q. ⌜ PairGiven (now (nodes .entry)) (now (expressions .entry)) (now (full .entry)) (now (set .entry)) (now (tally .entry)) (now (set .exit)) (now (tally .exit)) levels l r i (readingOf q) ⌝ }
 {
     let left = child(nodes, i, 0);
-    let first = visit(nodes, expressions, full, set, tally, levels, l, left);
+    let first = decode(visit(nodes, expressions, full, set, tally, levels, l, left));
     let Reading::Degree(a) = first else {
-        return passed(first, tally);
+        return encode(passed(first, tally));
     };
     let right = child(nodes, i, 1);
     let second = visit(nodes, expressions, full, set, tally, levels, r, right);
-    let Reading::Degree(b) = second else {
+    let Reading::Degree(b) = decode(second) else {
         return second;
     };
     if kind_at(nodes, i) == Kind::MUL {
-        return Reading::Degree(a + b);
+        return a + b;
     }
-    Reading::Degree(larger(a, b))
+    larger(a, b)
 }
 
 // An expression at a leaf: a member is a column; else its body is read with the degree limit d, and where that is too large it becomes a member.
@@ -209,20 +216,20 @@ pub fn reference(
     levels: usize,
     m: u64,
     e: usize,
-) -> Reading
+) -> u64
     requires { ⌜ ReferenceAsked (now nodes) (now expressions) (now full) (now set) (now tally) levels m e ⌝ }
-    ensures { λ r. ⌜ ReferenceGiven (now (nodes .entry)) (now (expressions .entry)) (now (full .entry)) (now (set .entry)) (now (tally .entry)) (now (set .exit)) (now (tally .exit)) levels m e r ⌝ }
+    ensures { λ r. ⌜ ReferenceGiven (now (nodes .entry)) (now (expressions .entry)) (now (full .entry)) (now (set .entry)) (now (tally .entry)) (now (set .exit)) (now (tally .exit)) levels m e (readingOf r) ⌝ }
 {
     if m < 1 {
-        return Reading::Nothing;
+        return NOTHING;
     }
     if has(set, e) {
-        return Reading::Degree(1);
+        return 1;
     }
     let d = tally[DEGREE];
     let body = root(expressions, e);
     let read = visit(nodes, expressions, full, set, tally, levels - 1, d, body);
-    let Reading::Degree(degree) = read else {
+    let Reading::Degree(degree) = decode(read) else {
         return read;
     };
     if degree <= m {
@@ -230,5 +237,5 @@ pub fn reference(
     }
     put(set, e);
     cut(tally, degree);
-    Reading::Degree(1)
+    1
 }

@@ -1,7 +1,4 @@
 // What is counted on the way: the largest degree cut and the visits, and beside them the caller's limit and the degree limit d, which stay.
-ghost use mathlib.Core.Path.{_≡_};
-ghost use Prim.Native.Nat.{max};
-ghost use lib.ListN.{length, getD};
 ghost use Rattle.degree_rule.specs.Tallies.{Whole, Entered, Cuts};
 
 pub const TALLY_WORDS: usize = 4;

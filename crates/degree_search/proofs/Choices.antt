@@ -1,8 +1,8 @@
 -- The choice among candidates: at the loop's head the limits that are left, from the one kept so far, give what all of them give.
 -- Assumes nothing.
-use Prim.Native.Nat.{ℕ, zero, suc, _+_, _-_, _<_, _≤_}
+use Prim.Native.Nat.{ℕ, suc, _+_, _-_, _<_, _≤_}
 use mathlib.Core.Path.{_≡_, refl, sym, _∙_, ap, ap₂, subst}
-use mathlib.Core.Bool.{Bool, true, false}
+use mathlib.Core.Bool.{false}
 use mathlib.Core.Option.{none, some}
 use mathlib.Core.List.{List, [], _∷_}
 use mathlib.Core.Logic.{inl, inr}
@@ -12,13 +12,13 @@ use denote.Enum.Declared.{tagOf}
 use lib.ListN.{length, getD}
 use Rattle.meaning.specs.Refusals.{Answer}
 use Rattle.meaning.specs.Trees.{Forest}
-use Rattle.search_meaning.specs.Search.{Found, keep, candidate, finish, Choice, onward, tries}
+use Rattle.search_meaning.specs.Search.{keep, candidate, finish, Choice, onward, folds, tries}
 use Rattle.pool.specs.Trees.{forest}
 use Rattle.pool.specs.Tabled.{Tables, tabled}
 use Rattle.pool.specs.Laws.Tabled.{expression-count}
 use Rattle.pool.specs.Laws.Forest.{forest-size}
 use Rattle.full_degrees.specs.Table.{F}
-use Rattle.sets.specs.Members.{members, Good}
+use Rattle.sets.specs.Members.{Good}
 use Rattle.sets.specs.Empty.{blank, blank-none, blank-good}
 use Rattle.degree_rule.specs.declared.reading.Reading.{Reading}
 use Rattle.degree_rule.specs.declared.reading.Reading.the-variants.{Degree, Nothing, BadKind, OverLimit}
@@ -26,7 +26,7 @@ use Rattle.degree_rule.specs.Tallies.{tallyOf, Whole}
 use Rattle.degree_rule.specs.Readings.{foundOf, saidOf, refusedIn}
 use Rattle.degree_rule.specs.Laws.{calm-said}
 use Rattle.degree_rule.proofs.reading.Reading.{the-type}
-use Rattle.degree_search.specs.Candidates.{Reads, AsksAll, folds}
+use Rattle.degree_search.specs.Candidates.{Reads, AsksAll}
 use Rattle.degree_search.specs.Choosing.{Keeps, Fresh, Ready, Asks, Tells}
 use Rattle.degree_search.specs.declared.choose.Searched.{Searched}
 use Rattle.degree_search.specs.declared.choose.Searched.the-variants as searched

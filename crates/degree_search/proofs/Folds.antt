@@ -7,24 +7,23 @@ use mathlib.Core.Option.{Option, none, some}
 use mathlib.Core.List.{List, [], _∷_}
 use native.Mathlib.Omega.{arith}
 use native.Mathlib.Nat.{not-suc-le-zero, le-of-suc-le-suc}
-use lib.Dec.{ltb}
 use lib.ListN.{length, getD, drop}
 use Rattle.meaning.specs.Refusals.{Refusal}
 use Rattle.meaning.specs.Trees.{Forest}
-use Rattle.search_meaning.specs.Search.{Tally, Out, done, refused, Search, next, counted, Found, found, setOf, both, visit, rule, reference, body, top, candidate, foldMore, identityLeaf}
+use Rattle.search_meaning.specs.Search.{Tally, Out, done, refused, Search, next, counted, Found, found, setOf, both, visit, rule, reference, top, candidate, foldMore, identityLeaf, folds}
 use Rattle.search_meaning.specs.Fold.{next-next, tick, ticks, identity, identities, fold-is}
 use Rattle.pool.specs.Trees.{forest}
 use Rattle.pool.specs.Tabled.{Tables, tabled}
-use Rattle.full_degrees.specs.Table.{World, F}
+use Rattle.full_degrees.specs.Table.{F}
 use Rattle.full_degrees.specs.Parts.{few-ranks}
 use Rattle.sets.specs.Members.{members, Good}
 use Rattle.degree_rule.specs.declared.reading.Reading.{Reading}
 use Rattle.degree_rule.specs.declared.reading.Reading.the-variants.{Degree, Nothing, BadKind, OverLimit}
 use Rattle.degree_rule.specs.Tallies.{tallyOf, Whole, Held, Entered}
 use Rattle.degree_rule.specs.Readings.{foundOf, saidOf, isDegree, Passed}
-use Rattle.degree_rule.specs.Visiting.{B, referenced, Holds, Gives, AsksReference}
+use Rattle.degree_rule.specs.Visiting.{B, referenced, Gives, AsksReference}
 use Rattle.degree_rule.specs.Laws.{held-same, held-then, stuck, pair-said}
-use Rattle.degree_search.specs.Candidates.{topIn, Ticked, one, several, Reads, AsksOne, AsksAll, folds}
+use Rattle.degree_search.specs.Candidates.{topIn, Ticked, one, several, Reads, AsksOne, AsksAll}
 
 -- ── visits that do nothing by themselves ─────────────────────────────────────
 entered-cut : {y : List ℕ} {b : Bool} {y1 : List ℕ} → Entered y b y1 → getD y1 0 0 ≡ getD y 0 0

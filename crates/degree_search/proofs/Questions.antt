@@ -2,7 +2,7 @@
 -- Assumes nothing.
 use Prim.Native.Nat.{ℕ, zero, suc, _+_, _-_, _*_, _%_, _^_, _<_, _≤_}
 use mathlib.Core.Path.{_≡_, refl, sym, _∙_, ap, ap₂, subst}
-use mathlib.Core.Bool.{Bool, true, false, not, cond}
+use mathlib.Core.Bool.{Bool, true, false, cond}
 use mathlib.Core.Option.{Option, none, some}
 use mathlib.Core.List.{List, [], _∷_}
 use native.Mathlib.Omega.{arith}
@@ -11,14 +11,14 @@ use lib.Dec.{eqb, ltb, leb}
 use lib.Pow.{shl-exact}
 use lib.ListN.{length, getD}
 use borrow.Author.Tests.{le-leb, lt-leb, leb-true, leb-false, lt-ltb, le-ltb, ltb-true, eqb-true, eqb-false}
-use Rattle.meaning.specs.Refusals.{Refusal, Answer, done, refused, _then_}
+use Rattle.meaning.specs.Refusals.{Refusal, Answer, done, refused}
 use Rattle.meaning.specs.Trees.{Forest}
 use Rattle.meaning.specs.Laws.Tests.{done-same, done-not-refused, true-false}
-use Rattle.search_meaning.specs.Search.{Choice, bitsOk, allBelow, unless, tries, search}
+use Rattle.search_meaning.specs.Search.{Choice, bitsOk, allBelow, unless, folds, tries, search}
 use Rattle.frames.specs.Order.{Input, nothing, blameAnswer}
 use Rattle.frames.specs.Tables as frames
 use Rattle.frames.specs.Tables.{inputIn}
-use Rattle.frames.specs.Reading.{framesIn, readFrom, reading, held, Fills}
+use Rattle.frames.specs.Reading.{framesIn, reading, held, Fills}
 use Rattle.frames.specs.Exactly.{read-as}
 use Rattle.frames.specs.Limits.{held-within}
 use Rattle.frames.specs.declared.count.Counts.{Counts}
@@ -38,9 +38,8 @@ use Rattle.pool.specs.declared.admit.Verdict as admit
 use Rattle.pool.specs.Laws.Forest.{forest-size, acyclic-ranked}
 use Rattle.pool.specs.Laws.Tabled.{expression-count}
 use Rattle.full_degrees.specs.Table.{World, Fulls}
-use Rattle.degree_search.specs.Candidates.{folds}
-use Rattle.degree_search.specs.Choosing.{Asks, searchedSays, SetAfter, Tells}
-use Rattle.degree_search.specs.Searching.{Question, asking, searched, Answers, Runs, PoolAsked, PoolGiven, RunIs}
+use Rattle.degree_search.specs.Choosing.{Asks, searchedSays, Tells}
+use Rattle.degree_search.specs.Searching.{Question, asking, searched, Answers, Runs, PoolAsked, RunIs}
 use Rattle.degree_search.specs.declared.choose.Searched.{Searched}
 use Rattle.degree_search.specs.declared.choose.Searched.the-variants as found
 use Rattle.degree_search.specs.declared.search.Outcome.the-variants as outcome

@@ -4,11 +4,10 @@ use Prim.Native.Nat.{ℕ, _<_, _≤_, max}
 use mathlib.Core.Path.{_≡_}
 use mathlib.Core.Bool.{Bool, cond}
 use mathlib.Core.Option.{some}
-use mathlib.Core.List.{List, [], _∷_}
+use mathlib.Core.List.{List, []}
 use lib.ListN.{length, getD}
 use Rattle.meaning.specs.Refusals.{Refusal}
-use Rattle.meaning.specs.Trees.{Expr}
-use Rattle.search_meaning.specs.Search.{Out, done, refused, Search, next, Found, found, candidate, foldMore, identityLeaf}
+use Rattle.search_meaning.specs.Search.{Out, refused, Search, next, Found, found, candidate, folds}
 use Rattle.search_meaning.specs.Fold.{ticks, identity, identities}
 use Rattle.pool.specs.Trees.{forest}
 use Rattle.pool.specs.Tabled.{Tables, tabled}
@@ -17,8 +16,8 @@ use Rattle.full_degrees.specs.Table.{World, F}
 use Rattle.sets.specs.Members.{members, Good}
 use Rattle.degree_rule.specs.declared.reading.Reading.{Reading}
 use Rattle.degree_rule.specs.declared.reading.Reading.the-variants.{Degree, Nothing, BadKind, OverLimit}
-use Rattle.degree_rule.specs.Tallies.{tallyOf, Whole, Held}
-use Rattle.degree_rule.specs.Readings.{saidOf, degreeIn}
+use Rattle.degree_rule.specs.Tallies.{tallyOf, Held}
+use Rattle.degree_rule.specs.Readings.{saidOf}
 use Rattle.degree_rule.specs.Visiting.{B, Holds}
 
 abbrev pub topIn : Reading → ℕ → Reading
@@ -80,11 +79,6 @@ IdentitiesAsked v x f es s y m = (l : List ℕ) × (n : ℕ) × (rank : (ℕ →
 abbrev pub IdentitiesGiven : List ℕ → List ℕ → List ℕ → List ℕ → List ℕ → List ℕ → List ℕ → List ℕ → ℕ → Reading → Type 0
 IdentitiesGiven v x f es s y s′ y′ m r =
     (l : List ℕ) (n : ℕ) (rank : ℕ → ℕ) → AsksAll (Tabling v l x n m) rank f es s y → Reads (several (Tabling v l x n m) y es (found [] 0) (tallyOf y)) y s′ y′ r
-
--- the tree of the identities
-abbrev pub folds : ℕ → List ℕ → Expr
-folds vc [] = identityLeaf 0
-folds vc (e ∷ es) = foldMore vc (identityLeaf e) es
 
 -- THE CANDIDATE, whatever the number of "vc": no degree has been cut yet
 abbrev pub CandidateGiven : List ℕ → List ℕ → List ℕ → List ℕ → List ℕ → List ℕ → List ℕ → List ℕ → ℕ → Reading → Type 0

@@ -1,14 +1,12 @@
 -- What the choice among candidates asks and gives, and what its answer says.
 -- Assumes nothing: these are definitions.
-use Prim.Native.Nat.{ℕ, suc, _+_, _-_, _<_, _≤_}
+use Prim.Native.Nat.{ℕ, _-_, _<_, _≤_}
 use mathlib.Core.Path.{_≡_}
-use mathlib.Core.Bool.{Bool, true, false}
-use mathlib.Core.Option.{Option, none, some}
-use mathlib.Core.List.{List, []}
-use mathlib.Core.Logic.{_⊎_}
+use mathlib.Core.Option.{none, some}
+use mathlib.Core.List.{List}
 use lib.ListN.{length, getD}
 use Rattle.meaning.specs.Refusals.{Refusal, Answer, done, refused}
-use Rattle.search_meaning.specs.Search.{Found, keep, finish, Choice, tries}
+use Rattle.search_meaning.specs.Search.{Found, keep, finish, Choice, folds, tries}
 use Rattle.pool.specs.Trees.{forest}
 use Rattle.pool.specs.Tabled.{Tables, tabled}
 use Rattle.pool.specs.Ranking.{Tabling}
@@ -17,7 +15,6 @@ use Rattle.sets.specs.Members.{members, Good}
 use Rattle.degree_rule.specs.declared.reading.Reading.{Reading}
 use Rattle.degree_rule.specs.Tallies.{Whole}
 use Rattle.degree_rule.specs.Readings.{foundOf}
-use Rattle.degree_search.specs.Candidates.{folds}
 use Rattle.degree_search.specs.declared.choose.Searched.{Searched}
 use Rattle.degree_search.specs.declared.choose.Searched.the-variants as searched
 

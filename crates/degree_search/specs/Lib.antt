@@ -2,3 +2,4 @@
 pub mod Candidates
 pub mod Choosing
 pub mod Searching
+pub mod Unique

@@ -1,6 +1,7 @@
 // The candidate of one degree limit: the identities folded as vc·c + e, read from no members. The fold is a loop: the visits of its add and mul nodes come first, then
 // the identities in order.
 use degree_rule::reading::Reading;
+use degree_rule::reading::decode;
 use degree_rule::reading::passed;
 use degree_rule::rule::reference;
 use degree_rule::tally::CUT;
@@ -74,7 +75,7 @@ fn identity(
         return Reading::OverLimit;
     }
     let d = tally[DEGREE];
-    let read = reference(nodes, expressions, full, set, tally, m, d, e);
+    let read = decode(reference(nodes, expressions, full, set, tally, m, d, e));
     let Reading::Degree(b) = read else {
         return read;
     };

@@ -11,9 +11,6 @@ use frames::count::EXPRESSION_LIMIT;
 use frames::count::NODE_LIMIT;
 use frames::tables::NODE_WORDS;
 use sets::SET_WORDS;
-ghost use mathlib.Core.Path.{_≡_};
-ghost use Prim.Native.Nat.{_≤_};
-ghost use Rattle.sets.specs.Members.{Good};
 ghost use Rattle.degree_rule.specs.Tallies.{Whole};
 ghost use Rattle.degree_search.specs.Choosing.{Fresh, Ready, FinishGiven, ChooseAsked, ChooseGiven};
 

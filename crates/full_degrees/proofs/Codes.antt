@@ -1,16 +1,16 @@
 -- Full degrees as bytes: what operations make of them, and those of leaves.
 -- Assumes nothing.
-use Prim.Native.Nat.{ℕ, zero, suc, _+_, _<_, _≤_, min, max}
+use Prim.Native.Nat.{ℕ, _+_, _<_, _≤_, min, max}
 use mathlib.Core.Path.{_≡_, refl, sym, _∙_, ap}
 use mathlib.Core.Bool.{Bool, true, false, cond}
 use mathlib.Core.Option.{Option, none, some}
-use mathlib.Core.Logic.{_⊎_, inl, inr}
+use mathlib.Core.Logic.{inl, inr}
 use native.Mathlib.Omega.{arith}
 use lib.Dec.{eqb, ltb}
 use borrow.Author.Tests.{ne-eqb, lt-ltb, le-ltb, eqb-true, eqb-false, ltb-true, ltb-false}
 use Rattle.kinds.specs.KindBytes as kind
-use Rattle.kinds.specs.Range.{within, within-in, within-below, within-above}
-use Rattle.search_meaning.specs.Degrees.{Class, map₂, sumDegree, fullLeaf}
+use Rattle.kinds.specs.Range.{within-in, within-below, within-above}
+use Rattle.search_meaning.specs.Degrees.{map₂, sumDegree, fullLeaf}
 use Rattle.full_degrees.specs.Coded.{noDegree, coded, timesCode, leafCode}
 use Rattle.full_degrees.specs.Shapes.{classBy, by-constant, by-eval, by-q, by-quotient, by-rest}
 
@@ -55,10 +55,6 @@ times-is none none = sym (times-none noDegree noDegree (omega arith))
 times-is none (some b) = sym (times-none noDegree (min 18 b) (omega arith))
 times-is (some a) none = sym (times-none (min 18 a) noDegree (omega arith))
 times-is (some a) (some b) = times-by (min 18 a) (min 18 b) (omega arith) ∙ omega arith
-
-pub code-known : (a : Option ℕ) → coded a ≡ 254 → ⊥
-code-known none h = omega (arith, h)
-code-known (some n) h = omega (arith, h)
 
 -- ── leaves ───────────────────────────────────────────────────────────────────
 module _ (k : ℕ) where

@@ -1,14 +1,14 @@
 -- The full degree of a node's tree from its parts, and what the table holds after it.
 -- Assumes nothing.
-use Prim.Native.Nat.{ℕ, zero, suc, _+_, _-_, _*_, _<_, _≤_, max}
+use Prim.Native.Nat.{ℕ, _+_, _-_, _*_, _<_, _≤_, max}
 use mathlib.Core.Path.{_≡_, refl, sym, _∙_, ap, ap₂, subst}
 use mathlib.Core.Bool.{Bool, true, false}
-use mathlib.Core.Option.{Option, none, some}
-use mathlib.Core.List.{List, []}
+use mathlib.Core.Option.{Option, some}
+use mathlib.Core.List.{List}
 use mathlib.Core.Logic.{_⊎_, inl, inr}
 use native.Mathlib.Omega.{arith}
 use lib.Dec.{eqb}
-use lib.ListN.{length, getD, set, length-set, replicate, length-replicate, getD-replicate}
+use lib.ListN.{getD, set, length-set, replicate, length-replicate, getD-replicate}
 use lib.Seq.{getD-set-same, getD-set-other}
 use borrow.Author.Tests.{eqb-true, eqb-false}
 use Rattle.meaning.specs.Trees.{Expr}
@@ -24,9 +24,9 @@ use Rattle.pool.specs.Ranking.{Tabling}
 use Rattle.full_degrees.specs.Coded.{unknown, coded, timesCode, leafCode}
 use Rattle.full_degrees.specs.Shapes.{Sum, plus, minus, Single, withLit, negated, classBy, sum-is, mul-is, muladd-is, single-is, leaf-at}
 use Rattle.full_degrees.specs.Table.{World, F, fullAt, Fulls, Sound, Later}
-use Rattle.full_degrees.specs.Parts.{Stands, room, Part, left, right, only, first, second, third, named-room, lower, body, leaf-full, all-levels}
+use Rattle.full_degrees.specs.Parts.{room, Part, left, right, only, first, second, third, named-room, lower, body, leaf-full, all-levels}
 use Rattle.full_degrees.specs.Filling.{Asks, Gives, Stores}
-use Rattle.full_degrees.proofs.Codes.{max-is, sum-code, one-code, times-is, code-known, leaf-code}
+use Rattle.full_degrees.proofs.Codes.{max-is, sum-code, one-code, times-is, leaf-code}
 
 -- ── the full degree of a tree, by its form ───────────────────────────────────
 sum-full : (f : ℕ → Option ℕ) {x a b : Expr} → Sum x a b → full f x ≡ map₂ sumDegree (full f a) (full f b)
@@ -50,9 +50,6 @@ module _ {v l x : List ℕ} {n m : ℕ} {rank : ℕ → ℕ} {w : List ℕ} {lev
 
   pub inside : i < nodeLimit
   inside = room (a .stands)
-
-  pub size : i < length w
-  size = rw (a .sound .size) inside
 
   -- a part, after what is known by then
   pub part-asks : {w1 : List ℕ} → Sound t w1 → {j : ℕ} → Part (a .stands) j → Asks t rank w1 levels j

@@ -1,18 +1,18 @@
 -- A node of an admitted pool, with the levels of expressions that its leaves may still lead through, and the parts that a recursion goes on to.
 -- Assumes nothing.
-use Prim.Native.Nat.{ℕ, zero, suc, _+_, _-_, _*_, _<_, _≤_}
+use Prim.Native.Nat.{ℕ, _+_, _-_, _<_, _≤_}
 use mathlib.Core.Path.{_≡_, refl, sym, _∙_, ap, subst}
 use mathlib.Core.Bool.{Bool, true, false}
-use mathlib.Core.Option.{Option, none, some}
+use mathlib.Core.Option.{some}
 use mathlib.Core.List.{List, [], _++_}
-use mathlib.Core.Logic.{_⊎_, inl, inr}
+use mathlib.Core.Logic.{inr}
 use native.Mathlib.Omega.{arith}
 use lib.Dec.{eqb}
 use lib.ListN.{length}
 use borrow.Author.Tests.{eqb-true, eqb-false}
-use Rattle.meaning.specs.Trees.{Expr, Op, Leaf, Expression, nth, Placed, leaves, Each, Member, Acyclic}
+use Rattle.meaning.specs.Trees.{Expression, nth, Placed, leaves, Each}
 use Rattle.meaning.specs.Laws.Tests.{each-left, each-right}
-use Rattle.search_meaning.specs.Degrees.{Class, classOf, fullLeaf, full, fullTable}
+use Rattle.search_meaning.specs.Degrees.{fullLeaf, full}
 use Rattle.search_meaning.specs.Levels.{full-is}
 use Rattle.kinds.specs.KindBytes as kind
 use Rattle.frames.specs.Order.{nodeLimit, expressionLimit}
@@ -22,15 +22,15 @@ use Rattle.pool.specs.Words.{c0In, c1In, c2In, rootIn}
 use Rattle.pool.specs.Pool.{Pool, node, rootOf}
 use Rattle.pool.specs.Trees.{tree, forest}
 use Rattle.pool.specs.Shaped.{Shaped}
-use Rattle.pool.specs.Admission.{leadsTo, Edge, Ranked}
+use Rattle.pool.specs.Admission.{leadsTo, Edge}
 use Rattle.pool.specs.Tabled.{Tables, tabled}
-use Rattle.pool.specs.Ranking.{Starts, Leads}
+use Rattle.pool.specs.Ranking.{Leads}
 use Rattle.pool.specs.Laws.Members.{each-member, member-each}
 use Rattle.pool.specs.Laws.Tabled.{root-at, expression-count}
 use Rattle.pool.specs.Laws.Leads.{exp-leads}
-use Rattle.pool.specs.Laws.Forest.{forest-at, forest-has, forest-acyclic, forest-size}
+use Rattle.pool.specs.Laws.Forest.{forest-at, forest-has, forest-acyclic}
 use Rattle.pool.specs.Laws.Nodes as Nodes
-use Rattle.full_degrees.specs.Shapes.{sum-leaves, single-leaves, classBy, by-exp, sum-is, mul-is, muladd-is, single-is, two-before, three-before, one-before, leaf-at}
+use Rattle.full_degrees.specs.Shapes.{sum-leaves, single-leaves, by-exp, sum-is, mul-is, muladd-is, single-is, two-before, three-before, one-before, leaf-at}
 use Rattle.full_degrees.specs.Table.{World, F, fullAt}
 
 -- node i, whose leaves lead to expressions of a rank below levels

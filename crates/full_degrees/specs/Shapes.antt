@@ -1,9 +1,9 @@
 -- The tree of a node in tables, by its kind: what a degree sees of it.
 -- Assumes nothing.
-use Prim.Native.Nat.{ℕ, zero, suc, _<_, _≤_}
+use Prim.Native.Nat.{ℕ, _<_, _≤_}
 use mathlib.Core.Path.{_≡_, refl, sym, _∙_, ap, ap₂, subst}
 use mathlib.Core.Bool.{Bool, true, false, cond}
-use mathlib.Core.List.{List, []}
+use mathlib.Core.List.{List}
 use mathlib.Core.Logic.{_⊎_, inl, inr}
 use native.Mathlib.Omega.{arith}
 use lib.Dec.{eqb, ltb}
@@ -13,13 +13,13 @@ use Rattle.meaning.specs.Trees.{Lit, Op, OpC, Leaf, Expr, Placed, leaves, Each}
 use Rattle.meaning.specs.Laws.Tests.{each-left, each-right}
 use Rattle.search_meaning.specs.Degrees.{Class, classOf}
 use Rattle.kinds.specs.KindBytes as kind
-use Rattle.kinds.specs.Range.{within, within-in, within-below, within-above, within-true}
+use Rattle.kinds.specs.Range.{within, within-in, within-below, within-above}
 use Rattle.frames.specs.declared.node.Node.{Node}
 use Rattle.frames.specs.Tables.{kindIn, idIn, nodeIn}
 use Rattle.pool.specs.Words.{c0In, c1In, c2In}
 use Rattle.pool.specs.Pool.{Pool, node, children}
 use Rattle.pool.specs.Trees as pool
-use Rattle.pool.specs.Trees.{leafOf, literalOf, class, grown, tree}
+use Rattle.pool.specs.Trees.{leafOf, class, tree}
 use Rattle.pool.specs.Shaped.{Shaped}
 use Rattle.pool.specs.Tabled.{Tables, tabled}
 use Rattle.pool.specs.Laws.Trees.{arity, arity-is, tree-binary, tree-muladd, tree-constant, tree-neg, leaf-is}

@@ -11,7 +11,6 @@ use kinds::kind::Kind;
 use pool::words::child;
 use pool::words::id;
 use pool::words::root;
-ghost use mathlib.Core.Path.{_≡_};
 ghost use Rattle.full_degrees.specs.Filling.{TreeAsked, NodeGiven, TreeGiven, FillAsked, FillGiven};
 
 // Of the tree at node i, whose leaves lead to others to no more than so many levels of expressions.

@@ -1,7 +1,7 @@
 -- THE FOLD WITHOUT ITS TREE: two visits for each identity but the first, then the identities in order. So a loop reads what the folded tree says, and the number
 -- of "vc" does not count.
 -- Assumes nothing.
-use Prim.Native.Nat.{ℕ, zero, suc, _+_, max}
+use Prim.Native.Nat.{ℕ, zero, suc, max}
 use mathlib.Core.Path.{_≡_, refl, sym, _∙_, ap}
 use mathlib.Core.Bool.{Bool, true, false, cond}
 use mathlib.Core.Option.{Option, none, some}
@@ -9,8 +9,8 @@ use mathlib.Core.List.{List, [], _∷_}
 use native.Mathlib.Omega.{arith}
 use lib.ListN.{length}
 use Rattle.meaning.specs.Refusals.{Refusal}
-use Rattle.meaning.specs.Trees.{Expr, Forest}
-use Rattle.search_meaning.specs.Search.{Tally, Out, done, refused, Search, next, counted, Found, found, setOf, both, room, visit, rule, reference, body, top, candidate, identityLeaf, folded, foldMore}
+use Rattle.meaning.specs.Trees.{Expr}
+use Rattle.search_meaning.specs.Search.{Tally, Out, done, refused, Search, next, counted, Found, found, setOf, both, room, visit, rule, reference, identityLeaf, folded, foldMore}
 
 pub next-next : {A B C : Type 0} (o : Out A) (f : A → Search B) (g : B → Search C) → next (next o f) g ≡ next o (λ a k. next (f a k) g)
 next-next (done a k) f g = refl

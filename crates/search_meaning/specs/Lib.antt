@@ -5,4 +5,5 @@ pub mod Search
 pub mod Fold
 pub mod Unlimited
 pub mod SearchExactly
+pub mod SearchCases
 pub mod SearchExamples

@@ -1,22 +1,20 @@
 -- WHAT A PERSON WANTS TO KNOW OF A SEARCH, in a forest without a cycle: each refusal exactly when, what an accepted choice is, and that the limit on visits changes
 -- nothing once it is enough.
 -- Assumes nothing.
-use Prim.Native.Nat.{ℕ, zero, suc, _+_, _-_, _^_, _<_, _≤_}
-use mathlib.Core.Path.{_≡_, refl, sym, _∙_, ap, subst}
+use Prim.Native.Nat.{ℕ, zero, suc, _+_, _-_, _<_, _≤_}
+use mathlib.Core.Path.{_≡_, refl, sym, _∙_, ap}
 use mathlib.Core.Bool.{Bool, true, false, cond, _||_}
-use mathlib.Core.Option.{Option, none, some, Option·none-ne-some, Option·some-injective}
-use mathlib.Core.List.{List, [], _∷_, _++_}
-use mathlib.Core.Logic.{_⊎_, inl, inr, _↔_}
+use mathlib.Core.Option.{Option, none, some, Option·none-ne-some}
+use mathlib.Core.List.{List, [], _∷_}
+use mathlib.Core.Logic.{_⊎_, inl, inr}
 use native.Mathlib.Omega.{arith}
-use lib.Dec.{eqb, ltb, leb}
+use lib.Dec.{eqb, ltb}
 use lib.ListN.{length}
-use borrow.Author.Tests.{le-leb, lt-leb, leb-true, leb-false, ltb-true}
-use Rattle.meaning.specs.Refusals.{Refusal, number, Answer, answerNo}
+use Rattle.meaning.specs.Refusals.{Refusal, Answer}
 use Rattle.meaning.specs.Trees.{Leaf, Expr, Expression, Forest, nth, Placed, _at_, leaves, Each, Acyclic}
-use Rattle.meaning.specs.Laws.Tests.{true-false, each-join}
 use Rattle.search_meaning.specs.Degrees.{fullTable}
-use Rattle.search_meaning.specs.Search.{Tally, Out, done, refused, Search, next, Read, Found, found, visit, rule, body, top, candidate, qOf, weight, keep, Choice, finishAt, finish, onward, tries, identityLeaf, folded, foldMore, allBelow, bitsOk, unless, search}
-use Rattle.search_meaning.specs.Unlimited.{seen, OnlyKind, clip, clip-over, clip-under, Cuts, cuts-give, cuts-bind, cuts-visit, Bodies, cuts-rule, cuts-bodies}
+use Rattle.search_meaning.specs.Search.{Tally, Out, done, refused, next, Read, Found, found, body, top, candidate, qOf, weight, keep, Choice, finish, onward, tries, folded, unless, search}
+use Rattle.search_meaning.specs.Unlimited.{OnlyKind, clip, clip-under, Cuts, cuts-give, cuts-bind, cuts-visit, Bodies, cuts-rule, cuts-bodies}
 
 -- ── all candidates, with what was counted ────────────────────────────────────
 -- n degree limits from d on, over the tree c: the one kept at the end
@@ -28,7 +26,7 @@ abbrev pub close : Out Found → Answer Choice
 close (done x k) = finish x (k .visits)
 close (refused r v) = Answer.refused r none
 
-tries-are : (limit : Option ℕ) (E : Forest) (c : Expr) (n d : ℕ) (kept : Found) (v : ℕ) → tries limit E c n d kept v ≡ close (tryAll limit E c n d kept v)
+pub tries-are : (limit : Option ℕ) (E : Forest) (c : Expr) (n d : ℕ) (kept : Found) (v : ℕ) → tries limit E c n d kept v ≡ close (tryAll limit E c n d kept v)
 tries-are limit E c zero d kept v = refl
 tries-are limit E c (suc n) d kept v = go (tries-are limit E c n (d + 1)) (candidate limit E d (fullTable E) (length E) c v)
   where
@@ -127,7 +125,7 @@ module _ (limit : Option ℕ) (E : Forest) (c : Expr) where
 -- ── the limit ────────────────────────────────────────────────────────────────
 module _ (E : Forest) (acyclic : Acyclic E) (m : ℕ) where
   -- the leaves of the folded identities lead to expressions that are there
-  abbrev There : Placed → Type 0
+  abbrev pub There : Placed → Type 0
   There (l at n) = (e a : ℕ) → l ≡ Leaf.exp e a → e < length E
 
   nth-there : (l : Forest) (n : ℕ) → n < length l → (x : Expression) × (nth l n ≡ some x)

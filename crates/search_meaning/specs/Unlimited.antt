@@ -5,16 +5,15 @@ use Prim.Native.Nat.{ℕ, zero, suc, _+_, _-_, _<_, _≤_, max}
 use mathlib.Core.Path.{_≡_, refl, sym, _∙_, ap, subst}
 use mathlib.Core.Bool.{Bool, true, false, cond}
 use mathlib.Core.Option.{Option, none, some}
-use mathlib.Core.List.{List, [], _∷_, _++_}
+use mathlib.Core.List.{List}
 use native.Mathlib.Omega.{arith}
 use lib.Dec.{ltb, leb}
-use lib.ListN.{length}
-use borrow.Author.Tests.{le-leb, lt-leb, lt-ltb, le-ltb, leb-true, leb-false, ltb-true, ltb-false}
-use Rattle.meaning.specs.Refusals.{Refusal, Answer}
+use borrow.Author.Tests.{le-leb, lt-leb, leb-true, leb-false, ltb-true, ltb-false}
+use Rattle.meaning.specs.Refusals.{Refusal}
 use Rattle.meaning.specs.Trees.{RowKind, FlatKind, XKind, Op, Leaf, Expr, Expression, Forest, nth, Placed, _at_, leaves, Each, Falls, Acyclic}
 use Rattle.meaning.specs.Laws.Tests.{each-left, each-right, each-map}
-use Rattle.search_meaning.specs.Degrees.{Class, classOf, rowClass, flatClass, xClass, full, fullTable}
-use Rattle.search_meaning.specs.Search.{Tally, Out, done, refused, Search, next, bind, give, refuse, pick, cutAt, counted, Read, Found, found, setOf, both, better, settled, free, Reads, room, visit, pair, splits, cutBody, reference, leafRule, product, rule, bodyIn, body, member, insert}
+use Rattle.search_meaning.specs.Degrees.{Class, classOf, full}
+use Rattle.search_meaning.specs.Search.{Tally, Out, done, refused, Search, next, bind, give, refuse, pick, cutAt, counted, Found, found, setOf, both, better, settled, free, Reads, visit, pair, splits, cutBody, reference, leafRule, product, rule, bodyIn, body, member, insert}
 
 -- the visits made
 abbrev pub seen : {A : Type 0} → Out A → ℕ

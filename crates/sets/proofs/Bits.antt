@@ -3,12 +3,11 @@
 use mathlib.Core.Path.{_≡_, refl, sym, ap, _∙_}
 use mathlib.Core.Bool.{Bool, true, false, cond}
 use mathlib.Core.List.{List, [], _∷_}
-use mathlib.Core.Logic.{⊎-elim}
 use Prim.Native.Nat.{ℕ, zero, suc, _+_, _*_, _-_, _/_, _%_, _^_, _≤_, _<_}
 use native.Mathlib.Omega.{arith}
 use lib.Dec.{eqb, ltb}
 use lib.Bits.{bitOr, bitAnd, and-mask, or-shr, or-mod, or-zero-r}
-use lib.Pow.{pow-pos, shl-exact, pow-lt, pow-add, shl-shr}
+use lib.Pow.{shl-exact, pow-lt, pow-add, shl-shr}
 use native.Mathlib.Nat.{one-mul, div-eq-of-lt, mul-mod-left, pow-suc, mod-lt}
 use lib.ListN.{length, getD, set, length-set}
 use lib.Seq.{getD-set-same, getD-set-other}

@@ -1,7 +1,7 @@
 // A set of expression numbers as a bit array: eight words of bits, and a ninth with how many are set.
 ghost use mathlib.Core.Path.{_≡_};
 ghost use Prim.Native.Nat.{_<_};
-ghost use lib.ListN.{length, getD};
+ghost use lib.ListN.{length};
 ghost use Rattle.search_meaning.specs.Search.{member};
 ghost use Rattle.sets.specs.Members.{members, Good, Put};
 

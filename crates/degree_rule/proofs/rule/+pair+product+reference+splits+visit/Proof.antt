@@ -9,9 +9,9 @@ use borrow.Author.Needs.{needs}
 use Rattle.pool.specs.Ranking.{Tabling}
 use Rattle.degree_rule.specs.Visiting.{AsksProduct}
 use Rattle.full_degrees.specs.Parts.{room}
-use Rattle.degree_rule.specs.Laws.{not-taken, not-left}
+use Rattle.degree_rule.specs.Laws.{not-taken, not-left, no-low, to-code, as-read}
 use Rattle.degree_rule.proofs.Readings.{no-degree}
-use Rattle.degree_rule.proofs.Visits.{five, twenty, enter-asks, enter-over, lift, read-constant, read-bad, read-late, read-rest, sum-asks, read-sum, one-part, one-asks, read-one, exp-asks, read-exp, product-asks, pair-room, left-part, left-asks, pair-none, right-part, right-asks, second-none, sum-fits, times-gives, larger-gives, exp-room, some-levels, ref-low, ref-member, body-asks, ref-none, ref-kept, ref-cut, product-room, full-room, factor-left, factor-right, asks-left, asks-right, made-right, made-left, made-none, made-low, made-splits}
+use Rattle.degree_rule.proofs.Visits.{five, twenty, enter-asks, enter-over, lift, read-constant, read-bad, read-late, read-rest, sum-asks, read-sum, one-part, one-asks, read-one, exp-asks, read-exp, product-asks, pair-room, left-part, left-asks, pair-none, right-part, right-asks, second-none, sum-fits, times-code, larger-code, exp-room, some-levels, ref-low, ref-member, body-asks, ref-none, ref-kept, ref-cut, product-room, factor-left, factor-right, asks-left, asks-right, made-right, made-left, made-none, made-code, made-splits}
 use Rattle.degree_rule.proofs.Splits.{Going, going-first, end-gives, turn-asks, turn-refused, turn-settled, going-on}
 use Prim.Native.Nat.{ℕ, _<_}
 use borrow.Fn.Kinds.{In}
@@ -32,6 +32,8 @@ use Rattle.degree_rule.proofs.rule.visit.Reads as visit
 use Rattle.degree_rule.proofs.rule.visit.Kinds as visit-kinds
 use Rattle.degree_rule.proofs.rule.+pair+product+reference+splits+visit.Lts-visit as visit-lts
 use Rattle.degree_rule.proofs.reading.better.Reads as better-reads
+use Rattle.degree_rule.proofs.reading.decode.Reads as decode-reads
+use Rattle.degree_rule.proofs.reading.encode.Reads as encode-reads
 use Rattle.degree_rule.proofs.reading.is_refused.Reads as is-refused-reads
 use Rattle.degree_rule.proofs.reading.passed.Reads as passed-reads
 use Rattle.degree_rule.proofs.reading.settled.Reads as settled-reads
@@ -97,16 +99,16 @@ abbrev visit-below : ℕ → In 5 visit-kinds.ps
 visit-below t = and 5 visit-kinds.ps (falls 5 visit-kinds.ps _<_ μ-visit t) visit.Pre
 
 abbrev pair-claims : ℕ → pair-lts.Claims
-pair-claims t = (child-reads.Asked, child-reads.Learnt, visit-below t, visit.Post, passed-reads.Asked, passed-reads.Learnt, kind-at-reads.Asked, kind-at-reads.Learnt, larger-reads.Asked, larger-reads.Learnt)
+pair-claims t = (child-reads.Asked, child-reads.Learnt, visit-below t, visit.Post, decode-reads.Asked, decode-reads.Learnt, passed-reads.Asked, passed-reads.Learnt, encode-reads.Asked, encode-reads.Learnt, kind-at-reads.Asked, kind-at-reads.Learnt, larger-reads.Asked, larger-reads.Learnt)
 
 abbrev product-claims : ℕ → product-lts.Claims
 product-claims t = (child-reads.Asked, child-reads.Learnt, kind-at-reads.Asked, kind-at-reads.Learnt, is-constant-reads.Asked, is-constant-reads.Learnt, visit-below t, visit.Post, wide-reads.Asked, wide-reads.Learnt, splits-below t, splits.Post)
 
 abbrev reference-claims : ℕ → reference-lts.Claims
-reference-claims t = (has-reads.Asked, has-reads.Learnt, root-reads.Asked, root-reads.Learnt, visit-below t, visit.Post, put-reads.Asked, put-reads.Learnt, cut-reads.Asked, cut-reads.Learnt)
+reference-claims t = (has-reads.Asked, has-reads.Learnt, root-reads.Asked, root-reads.Learnt, visit-below t, visit.Post, decode-reads.Asked, decode-reads.Learnt, put-reads.Asked, put-reads.Learnt, cut-reads.Asked, cut-reads.Learnt)
 
 abbrev splits-claims : ℕ → splits-lts.Claims
-splits-claims t = (pair-below t, pair.Post, is-refused-reads.Asked, is-refused-reads.Learnt, better-reads.Asked, better-reads.Learnt, settled-reads.Asked, settled-reads.Learnt)
+splits-claims t = (pair-below t, pair.Post, decode-reads.Asked, decode-reads.Learnt, is-refused-reads.Asked, is-refused-reads.Learnt, better-reads.Asked, better-reads.Learnt, settled-reads.Asked, settled-reads.Learnt, encode-reads.Asked, encode-reads.Learnt)
 
 abbrev visit-claims : ℕ → visit-lts.Claims
 visit-claims t = (enter-reads.Asked, enter-reads.Learnt, kind-at-reads.Asked, kind-at-reads.Learnt, product-below t, product.Post, id-reads.Asked, id-reads.Learnt, reference-below t, reference.Post, pair-below t, pair.Post, child-reads.Asked, child-reads.Learnt, visit-below t, visit.Post, column-reads.Asked, column-reads.Learnt)
@@ -117,41 +119,50 @@ pair-child-requires t c κs = pair-room (c .pre .1 .4)
 pair-visit-requires : (t : ℕ) → pair-lts.Need-visit-requires (pair-claims t) (pair-at t) pair.Post
 pair-visit-requires t c κs = let P = c .before .before .before .pre in let z = P .1 .0 in let n = P .1 .1 in let o = P .1 .2 in let rank = P .1 .3 in let a = P .1 .4 in (omega (arith, P .0, left-part a (c .before .before .child .ensures) .before), (z, n, o, rank, left-asks a (c .before .before .child .ensures)))
 
+pair-decode-requires : (t : ℕ) → pair-lts.Need-decode-requires (pair-claims t) (pair-at t) pair.Post
+pair-decode-requires t c κs = search needs
+
 pair-enum-known-first : (t : ℕ) → pair-lts.Need-enum-known-first (pair-claims t) (pair-at t) pair.Post
 pair-enum-known-first t c = search needs
 
 pair-passed-requires : (t : ℕ) → pair-lts.Need-passed-requires (pair-claims t) (pair-at t) pair.Post
-pair-passed-requires t c κs = let P = c .before .before .before .before .before .before .pre in let z = P .1 .0 in let n = P .1 .1 in let o = P .1 .2 in let rank = P .1 .3 in let a = P .1 .4 in (c .before .before .visit .ensures z n o rank (left-asks a (c .before .before .before .before .before .child .ensures))) .held .whole
+pair-passed-requires t c κs = let P = c .before .before .before .before .before .before .before .pre in let z = P .1 .0 in let n = P .1 .1 in let o = P .1 .2 in let rank = P .1 .3 in let a = P .1 .4 in (as-read (c .before .before .before .visit .result) (c .before .before .decode .ensures) (c .before .before .before .visit .ensures z n o rank (left-asks a (c .before .before .before .before .before .before .child .ensures)))) .held .whole
+
+pair-encode-requires : (t : ℕ) → pair-lts.Need-encode-requires (pair-claims t) (pair-at t) pair.Post
+pair-encode-requires t c κs = no-low (c .passed .result) 17 (c .passed .ensures .none (no-degree (c .before .before .before .decode .result) (c .before .before .match .keys2)))
 
 pair-returns : (t : ℕ) → pair-lts.Need-returns (pair-claims t) (pair-at t) pair.Post
-pair-returns t c = λ z n o rank a. pair-none a (c .before .before .before .before .before .before .child .ensures) (c .before .before .before .visit .ensures z n o rank (left-asks a (c .before .before .before .before .before .before .child .ensures))) (no-degree (c .before .before .before .visit .result) (c .before .before .match .keys2)) (c .passed .ensures)
+pair-returns t c = λ z n o rank a. to-code (c .encode .result) (c .encode .ensures) (pair-none a (c .before .before .before .before .before .before .before .before .child .ensures) (as-read (c .before .before .before .before .before .visit .result) (c .before .before .before .before .decode .ensures) (c .before .before .before .before .before .visit .ensures z n o rank (left-asks a (c .before .before .before .before .before .before .before .before .child .ensures)))) (no-degree (c .before .before .before .before .decode .result) (c .before .before .before .match .keys2)) (c .before .passed .ensures))
 
 pair-child-requires-2 : (t : ℕ) → pair-lts.Need-child-requires-2 (pair-claims t) (pair-at t) pair.Post
-pair-child-requires-2 t c κs = pair-room (c .before .before .before .before .before .before .before .pre .1 .4)
+pair-child-requires-2 t c κs = pair-room (c .before .before .before .before .before .before .before .before .pre .1 .4)
 
 pair-visit-requires-2 : (t : ℕ) → pair-lts.Need-visit-requires-2 (pair-claims t) (pair-at t) pair.Post
-pair-visit-requires-2 t c κs = let P = c .before .before .before .before .before .before .before .before .before .before .pre in let z = P .1 .0 in let n = P .1 .1 in let o = P .1 .2 in let rank = P .1 .3 in let a = P .1 .4 in (omega (arith, P .0, right-part a (c .before .before .before .before .before .before .before .before .before .child .ensures) (c .before .before .before .before .before .before .visit .ensures z n o rank (left-asks a (c .before .before .before .before .before .before .before .before .before .child .ensures))) (c .before .before .before .before .first .given .1) (c .before .before .child2 .ensures) .before), (z, n, o, rank, right-asks a (c .before .before .before .before .before .before .before .before .before .child .ensures) (c .before .before .before .before .before .before .visit .ensures z n o rank (left-asks a (c .before .before .before .before .before .before .before .before .before .child .ensures))) (c .before .before .before .before .first .given .1) (c .before .before .child2 .ensures)))
+pair-visit-requires-2 t c κs = let P = c .before .before .before .before .before .before .before .before .before .before .before .pre in let z = P .1 .0 in let n = P .1 .1 in let o = P .1 .2 in let rank = P .1 .3 in let a = P .1 .4 in (omega (arith, P .0, right-part a (c .before .before .before .before .before .before .before .before .before .before .child .ensures) (as-read (c .before .before .before .before .before .before .before .visit .result) (c .before .before .before .before .before .before .decode .ensures) (c .before .before .before .before .before .before .before .visit .ensures z n o rank (left-asks a (c .before .before .before .before .before .before .before .before .before .before .child .ensures)))) (c .before .before .before .before .first .given .1) (c .before .before .child2 .ensures) .before), (z, n, o, rank, right-asks a (c .before .before .before .before .before .before .before .before .before .before .child .ensures) (as-read (c .before .before .before .before .before .before .before .visit .result) (c .before .before .before .before .before .before .decode .ensures) (c .before .before .before .before .before .before .before .visit .ensures z n o rank (left-asks a (c .before .before .before .before .before .before .before .before .before .before .child .ensures)))) (c .before .before .before .before .first .given .1) (c .before .before .child2 .ensures)))
 
-pair-enum-known-second : (t : ℕ) → pair-lts.Need-enum-known-second (pair-claims t) (pair-at t) pair.Post
-pair-enum-known-second t c = search needs
+pair-decode-requires-2 : (t : ℕ) → pair-lts.Need-decode-requires-2 (pair-claims t) (pair-at t) pair.Post
+pair-decode-requires-2 t c κs = search needs
+
+pair-enum-known-b : (t : ℕ) → pair-lts.Need-enum-known-b (pair-claims t) (pair-at t) pair.Post
+pair-enum-known-b t c = search needs
 
 pair-returns-2 : (t : ℕ) → pair-lts.Need-returns-2 (pair-claims t) (pair-at t) pair.Post
-pair-returns-2 t c = λ z n o rank a. second-none a (c .before .before .before .before .before .before .before .before .before .before .before .child .ensures) (c .before .before .before .before .before .before .before .before .visit .ensures z n o rank (left-asks a (c .before .before .before .before .before .before .before .before .before .before .before .child .ensures))) (c .before .before .before .before .before .before .first .given .1) (c .before .before .before .before .child2 .ensures) (c .before .visit2 .ensures z n o rank (right-asks a (c .before .before .before .before .before .before .before .before .before .before .before .child .ensures) (c .before .before .before .before .before .before .before .before .visit .ensures z n o rank (left-asks a (c .before .before .before .before .before .before .before .before .before .before .before .child .ensures))) (c .before .before .before .before .before .before .first .given .1) (c .before .before .before .before .child2 .ensures))) (no-degree (c .before .visit2 .result) (c .match2 .keys2))
+pair-returns-2 t c = λ z n o rank a. to-code (c .before .before .visit2 .result) (sym (c .before .decode2 .ensures)) (second-none a (c .before .before .before .before .before .before .before .before .before .before .before .before .before .child .ensures) (as-read (c .before .before .before .before .before .before .before .before .before .before .visit .result) (c .before .before .before .before .before .before .before .before .before .decode .ensures) (c .before .before .before .before .before .before .before .before .before .before .visit .ensures z n o rank (left-asks a (c .before .before .before .before .before .before .before .before .before .before .before .before .before .child .ensures)))) (c .before .before .before .before .before .before .before .first .given .1) (c .before .before .before .before .before .child2 .ensures) (as-read (c .before .before .visit2 .result) (c .before .decode2 .ensures) (c .before .before .visit2 .ensures z n o rank (right-asks a (c .before .before .before .before .before .before .before .before .before .before .before .before .before .child .ensures) (as-read (c .before .before .before .before .before .before .before .before .before .before .visit .result) (c .before .before .before .before .before .before .before .before .before .decode .ensures) (c .before .before .before .before .before .before .before .before .before .before .visit .ensures z n o rank (left-asks a (c .before .before .before .before .before .before .before .before .before .before .before .before .before .child .ensures)))) (c .before .before .before .before .before .before .before .first .given .1) (c .before .before .before .before .before .child2 .ensures)))) (no-degree (c .before .decode2 .result) (c .match2 .keys2)))
 
 pair-kind-at-requires : (t : ℕ) → pair-lts.Need-kind-at-requires (pair-claims t) (pair-at t) pair.Post
-pair-kind-at-requires t c κs = pair-room (c .before .before .before .before .before .before .before .before .before .before .before .before .before .before .pre .1 .4)
+pair-kind-at-requires t c κs = pair-room (c .before .before .before .before .before .before .before .before .before .before .before .before .before .before .before .before .pre .1 .4)
 
-pair-add-t23 : (t : ℕ) → pair-lts.Need-add-t23 (pair-claims t) (pair-at t) pair.Post
-pair-add-t23 t c = let P = c .before .before .before .before .before .before .before .before .before .before .before .before .before .before .before .before .pre in let z = P .1 .0 in let n = P .1 .1 in let o = P .1 .2 in let rank = P .1 .3 in let a = P .1 .4 in omega (arith, sum-fits a (c .before .before .before .before .before .before .before .before .before .before .before .before .before .before .before .child .ensures) (c .before .before .before .before .before .before .before .before .before .before .before .before .visit .ensures z n o rank (left-asks a (c .before .before .before .before .before .before .before .before .before .before .before .before .before .before .before .child .ensures))) (c .before .before .before .before .before .before .before .before .before .before .first .given .1) (c .before .before .before .before .before .before .before .before .child2 .ensures) (c .before .before .before .before .before .visit2 .ensures z n o rank (right-asks a (c .before .before .before .before .before .before .before .before .before .before .before .before .before .before .before .child .ensures) (c .before .before .before .before .before .before .before .before .before .before .before .before .visit .ensures z n o rank (left-asks a (c .before .before .before .before .before .before .before .before .before .before .before .before .before .before .before .child .ensures))) (c .before .before .before .before .before .before .before .before .before .before .first .given .1) (c .before .before .before .before .before .before .before .before .child2 .ensures))) (c .before .before .before .second .given .1) (c .before .kind-at .ensures) (c .if1 .taken))
+pair-add-result : (t : ℕ) → pair-lts.Need-add-result (pair-claims t) (pair-at t) pair.Post
+pair-add-result t c = let P = c .before .before .before .before .before .before .before .before .before .before .before .before .before .before .before .before .before .before .pre in let z = P .1 .0 in let n = P .1 .1 in let o = P .1 .2 in let rank = P .1 .3 in let a = P .1 .4 in omega (arith, sum-fits a (c .before .before .before .before .before .before .before .before .before .before .before .before .before .before .before .before .before .child .ensures) (as-read (c .before .before .before .before .before .before .before .before .before .before .before .before .before .before .visit .result) (c .before .before .before .before .before .before .before .before .before .before .before .before .before .decode .ensures) (c .before .before .before .before .before .before .before .before .before .before .before .before .before .before .visit .ensures z n o rank (left-asks a (c .before .before .before .before .before .before .before .before .before .before .before .before .before .before .before .before .before .child .ensures)))) (c .before .before .before .before .before .before .before .before .before .before .before .first .given .1) (c .before .before .before .before .before .before .before .before .before .child2 .ensures) (as-read (c .before .before .before .before .before .before .visit2 .result) (c .before .before .before .before .before .decode2 .ensures) (c .before .before .before .before .before .before .visit2 .ensures z n o rank (right-asks a (c .before .before .before .before .before .before .before .before .before .before .before .before .before .before .before .before .before .child .ensures) (as-read (c .before .before .before .before .before .before .before .before .before .before .before .before .before .before .visit .result) (c .before .before .before .before .before .before .before .before .before .before .before .before .before .decode .ensures) (c .before .before .before .before .before .before .before .before .before .before .before .before .before .before .visit .ensures z n o rank (left-asks a (c .before .before .before .before .before .before .before .before .before .before .before .before .before .before .before .before .before .child .ensures)))) (c .before .before .before .before .before .before .before .before .before .before .before .first .given .1) (c .before .before .before .before .before .before .before .before .before .child2 .ensures)))) (c .before .before .before .b .given .1) (c .before .kind-at .ensures) (c .if1 .taken))
 
 pair-returns-3 : (t : ℕ) → pair-lts.Need-returns-3 (pair-claims t) (pair-at t) pair.Post
-pair-returns-3 t c = λ z n o rank a. times-gives a (c .before .before .before .before .before .before .before .before .before .before .before .before .before .before .before .child .ensures) (c .before .before .before .before .before .before .before .before .before .before .before .before .visit .ensures z n o rank (left-asks a (c .before .before .before .before .before .before .before .before .before .before .before .before .before .before .before .child .ensures))) (c .before .before .before .before .before .before .before .before .before .before .first .given .1) (c .before .before .before .before .before .before .before .before .child2 .ensures) (c .before .before .before .before .before .visit2 .ensures z n o rank (right-asks a (c .before .before .before .before .before .before .before .before .before .before .before .before .before .before .before .child .ensures) (c .before .before .before .before .before .before .before .before .before .before .before .before .visit .ensures z n o rank (left-asks a (c .before .before .before .before .before .before .before .before .before .before .before .before .before .before .before .child .ensures))) (c .before .before .before .before .before .before .before .before .before .before .first .given .1) (c .before .before .before .before .before .before .before .before .child2 .ensures))) (c .before .before .before .second .given .1) (c .before .kind-at .ensures) (c .if1 .taken)
+pair-returns-3 t c = λ z n o rank a. times-code a (c .before .before .before .before .before .before .before .before .before .before .before .before .before .before .before .before .before .child .ensures) (as-read (c .before .before .before .before .before .before .before .before .before .before .before .before .before .before .visit .result) (c .before .before .before .before .before .before .before .before .before .before .before .before .before .decode .ensures) (c .before .before .before .before .before .before .before .before .before .before .before .before .before .before .visit .ensures z n o rank (left-asks a (c .before .before .before .before .before .before .before .before .before .before .before .before .before .before .before .before .before .child .ensures)))) (c .before .before .before .before .before .before .before .before .before .before .before .first .given .1) (c .before .before .before .before .before .before .before .before .before .child2 .ensures) (as-read (c .before .before .before .before .before .before .visit2 .result) (c .before .before .before .before .before .decode2 .ensures) (c .before .before .before .before .before .before .visit2 .ensures z n o rank (right-asks a (c .before .before .before .before .before .before .before .before .before .before .before .before .before .before .before .before .before .child .ensures) (as-read (c .before .before .before .before .before .before .before .before .before .before .before .before .before .before .visit .result) (c .before .before .before .before .before .before .before .before .before .before .before .before .before .decode .ensures) (c .before .before .before .before .before .before .before .before .before .before .before .before .before .before .visit .ensures z n o rank (left-asks a (c .before .before .before .before .before .before .before .before .before .before .before .before .before .before .before .before .before .child .ensures)))) (c .before .before .before .before .before .before .before .before .before .before .before .first .given .1) (c .before .before .before .before .before .before .before .before .before .child2 .ensures)))) (c .before .before .before .b .given .1) (c .before .kind-at .ensures) (c .if1 .taken)
 
 pair-larger-requires : (t : ℕ) → pair-lts.Need-larger-requires (pair-claims t) (pair-at t) pair.Post
 pair-larger-requires t c κs = search needs
 
 pair-returns-4 : (t : ℕ) → pair-lts.Need-returns-4 (pair-claims t) (pair-at t) pair.Post
-pair-returns-4 t c = λ z n o rank a. larger-gives a (c .before .before .before .before .before .before .before .before .before .before .before .before .before .before .before .before .child .ensures) (c .before .before .before .before .before .before .before .before .before .before .before .before .before .visit .ensures z n o rank (left-asks a (c .before .before .before .before .before .before .before .before .before .before .before .before .before .before .before .before .child .ensures))) (c .before .before .before .before .before .before .before .before .before .before .before .first .given .1) (c .before .before .before .before .before .before .before .before .before .child2 .ensures) (c .before .before .before .before .before .before .visit2 .ensures z n o rank (right-asks a (c .before .before .before .before .before .before .before .before .before .before .before .before .before .before .before .before .child .ensures) (c .before .before .before .before .before .before .before .before .before .before .before .before .before .visit .ensures z n o rank (left-asks a (c .before .before .before .before .before .before .before .before .before .before .before .before .before .before .before .before .child .ensures))) (c .before .before .before .before .before .before .before .before .before .before .before .first .given .1) (c .before .before .before .before .before .before .before .before .before .child2 .ensures))) (c .before .before .before .before .second .given .1) (c .before .before .kind-at .ensures) (c .before .if1 .left) (c .larger .ensures)
+pair-returns-4 t c = λ z n o rank a. larger-code a (c .before .before .before .before .before .before .before .before .before .before .before .before .before .before .before .before .before .before .child .ensures) (as-read (c .before .before .before .before .before .before .before .before .before .before .before .before .before .before .before .visit .result) (c .before .before .before .before .before .before .before .before .before .before .before .before .before .before .decode .ensures) (c .before .before .before .before .before .before .before .before .before .before .before .before .before .before .before .visit .ensures z n o rank (left-asks a (c .before .before .before .before .before .before .before .before .before .before .before .before .before .before .before .before .before .before .child .ensures)))) (c .before .before .before .before .before .before .before .before .before .before .before .before .first .given .1) (c .before .before .before .before .before .before .before .before .before .before .child2 .ensures) (as-read (c .before .before .before .before .before .before .before .visit2 .result) (c .before .before .before .before .before .before .decode2 .ensures) (c .before .before .before .before .before .before .before .visit2 .ensures z n o rank (right-asks a (c .before .before .before .before .before .before .before .before .before .before .before .before .before .before .before .before .before .before .child .ensures) (as-read (c .before .before .before .before .before .before .before .before .before .before .before .before .before .before .before .visit .result) (c .before .before .before .before .before .before .before .before .before .before .before .before .before .before .decode .ensures) (c .before .before .before .before .before .before .before .before .before .before .before .before .before .before .before .visit .ensures z n o rank (left-asks a (c .before .before .before .before .before .before .before .before .before .before .before .before .before .before .before .before .before .before .child .ensures)))) (c .before .before .before .before .before .before .before .before .before .before .before .before .first .given .1) (c .before .before .before .before .before .before .before .before .before .before .child2 .ensures)))) (c .before .before .before .before .b .given .1) (c .before .before .kind-at .ensures) (c .before .if1 .left) (c .larger .ensures)
 
 product-child-requires : (t : ℕ) → product-lts.Need-child-requires (product-claims t) (product-at t) product.Post
 product-child-requires t c κs = product-room (c .pre .1 .4)
@@ -196,7 +207,7 @@ product-wide-requires : (t : ℕ) → product-lts.Need-wide-requires (product-cl
 product-wide-requires t c κs = search needs
 
 product-returns-4 : (t : ℕ) → product-lts.Need-returns-4 (product-claims t) (product-at t) product.Post
-product-returns-4 t c = λ z n o rank a. made-low a (c .before .before .before .before .before .before .before .before .before .before .before .before .child .ensures) (c .before .before .before .before .before .before .before .before .before .before .before .child2 .ensures) (c .before .before .before .before .before .before .before .before .before .before .kind-at .ensures) (c .before .before .before .before .before .before .before .before .before .is-constant .ensures) (c .before .before .before .before .before .before .before .before .if1 .left) (c .before .before .before .before .before .before .before .kind-at2 .ensures) (c .before .before .before .before .before .before .is-constant2 .ensures) (c .before .before .before .before .before .if2 .left) refl (c .before .wide .ensures) (c .if4 .taken)
+product-returns-4 t c = λ z n o rank a. made-code a (c .before .before .before .before .before .before .before .before .before .before .before .before .child .ensures) (c .before .before .before .before .before .before .before .before .before .before .before .child2 .ensures) (c .before .before .before .before .before .before .before .before .before .before .kind-at .ensures) (c .before .before .before .before .before .before .before .before .before .is-constant .ensures) (c .before .before .before .before .before .before .before .before .if1 .left) (c .before .before .before .before .before .before .before .kind-at2 .ensures) (c .before .before .before .before .before .before .is-constant2 .ensures) (c .before .before .before .before .before .if2 .left) refl (c .before .wide .ensures) (c .if4 .taken)
 
 product-splits-requires : (t : ℕ) → product-lts.Need-splits-requires (product-claims t) (product-at t) product.Post
 product-splits-requires t c κs = let P = c .before .before .before .before .before .before .before .before .before .before .before .before .before .before .before .pre in let z = P .1 .0 in let n = P .1 .1 in let o = P .1 .2 in let rank = P .1 .3 in let a = P .1 .4 in (omega (arith, P .0), (z, n, o, rank, a))
@@ -225,23 +236,26 @@ reference-sub-visit t c = some-levels (c .before .before .before .before .before
 reference-visit-requires : (t : ℕ) → reference-lts.Need-visit-requires (reference-claims t) (reference-at t) reference.Post
 reference-visit-requires t c κs = let P = c .before .before .before .before .before .before .before .before .pre in let z = P .1 .0 in let n = P .1 .1 in let o = P .1 .2 in let rank = P .1 .3 in let a = P .1 .4 in (omega (arith, P .0, room ((body-asks a (c .before .before .before .before .before .before .before .if1 .left) (sym (c .before .before .before .before .before .has .ensures) ∙ c .before .before .before .before .if2 .left) refl (c .before .before .root .ensures)) .stands), some-levels a), (z, n, o, rank, (body-asks a (c .before .before .before .before .before .before .before .if1 .left) (sym (c .before .before .before .before .before .has .ensures) ∙ c .before .before .before .before .if2 .left) refl (c .before .before .root .ensures))))
 
-reference-enum-known-read : (t : ℕ) → reference-lts.Need-enum-known-read (reference-claims t) (reference-at t) reference.Post
-reference-enum-known-read t c = search needs
+reference-decode-requires : (t : ℕ) → reference-lts.Need-decode-requires (reference-claims t) (reference-at t) reference.Post
+reference-decode-requires t c κs = search needs
+
+reference-enum-known-degree : (t : ℕ) → reference-lts.Need-enum-known-degree (reference-claims t) (reference-at t) reference.Post
+reference-enum-known-degree t c = search needs
 
 reference-returns-3 : (t : ℕ) → reference-lts.Need-returns-3 (reference-claims t) (reference-at t) reference.Post
-reference-returns-3 t c = λ z n o rank a. ref-none a (c .before .before .before .before .before .before .before .before .before .if1 .left) (sym (c .before .before .before .before .before .before .before .has .ensures) ∙ c .before .before .before .before .before .before .if2 .left) refl (c .before .before .before .before .root .ensures) (c .before .visit .ensures z n o rank (body-asks a (c .before .before .before .before .before .before .before .before .before .if1 .left) (sym (c .before .before .before .before .before .before .before .has .ensures) ∙ c .before .before .before .before .before .before .if2 .left) refl (c .before .before .before .before .root .ensures))) (no-degree (c .before .visit .result) (c .match .keys2))
+reference-returns-3 t c = λ z n o rank a. to-code (c .before .before .visit .result) (sym (c .before .decode .ensures)) (ref-none a (c .before .before .before .before .before .before .before .before .before .before .if1 .left) (sym (c .before .before .before .before .before .before .before .before .has .ensures) ∙ c .before .before .before .before .before .before .before .if2 .left) refl (c .before .before .before .before .before .root .ensures) (as-read (c .before .before .visit .result) (c .before .decode .ensures) (c .before .before .visit .ensures z n o rank (body-asks a (c .before .before .before .before .before .before .before .before .before .before .if1 .left) (sym (c .before .before .before .before .before .before .before .before .has .ensures) ∙ c .before .before .before .before .before .before .before .if2 .left) refl (c .before .before .before .before .before .root .ensures)))) (no-degree (c .before .decode .result) (c .match .keys2)))
 
 reference-returns-4 : (t : ℕ) → reference-lts.Need-returns-4 (reference-claims t) (reference-at t) reference.Post
-reference-returns-4 t c = λ z n o rank a. ref-kept a (c .before .before .before .before .before .before .before .before .before .before .before .before .if1 .left) (sym (c .before .before .before .before .before .before .before .before .before .before .has .ensures) ∙ c .before .before .before .before .before .before .before .before .before .if2 .left) refl (c .before .before .before .before .before .before .before .root .ensures) (c .before .before .before .before .visit .ensures z n o rank (body-asks a (c .before .before .before .before .before .before .before .before .before .before .before .before .if1 .left) (sym (c .before .before .before .before .before .before .before .before .before .before .has .ensures) ∙ c .before .before .before .before .before .before .before .before .before .if2 .left) refl (c .before .before .before .before .before .before .before .root .ensures))) (c .before .before .read .given .1) (c .if3 .taken)
+reference-returns-4 t c = λ z n o rank a. to-code (c .before .before .before .before .before .visit .result) (sym (c .before .before .before .before .decode .ensures) ∙ c .before .before .degree .given .1) (ref-kept a (c .before .before .before .before .before .before .before .before .before .before .before .before .before .if1 .left) (sym (c .before .before .before .before .before .before .before .before .before .before .before .has .ensures) ∙ c .before .before .before .before .before .before .before .before .before .before .if2 .left) refl (c .before .before .before .before .before .before .before .before .root .ensures) (as-read (c .before .before .before .before .before .visit .result) (c .before .before .before .before .decode .ensures) (c .before .before .before .before .before .visit .ensures z n o rank (body-asks a (c .before .before .before .before .before .before .before .before .before .before .before .before .before .if1 .left) (sym (c .before .before .before .before .before .before .before .before .before .before .before .has .ensures) ∙ c .before .before .before .before .before .before .before .before .before .before .if2 .left) refl (c .before .before .before .before .before .before .before .before .root .ensures)))) (c .before .before .degree .given .1) (c .if3 .taken))
 
 reference-put-requires : (t : ℕ) → reference-lts.Need-put-requires (reference-claims t) (reference-at t) reference.Post
-reference-put-requires t c κs = let P = c .before .before .before .before .before .before .before .before .before .before .before .before .before .before .pre in let z = P .1 .0 in let n = P .1 .1 in let o = P .1 .2 in let rank = P .1 .3 in let a = P .1 .4 in (exp-room a, (c .before .before .before .before .before .visit .ensures z n o rank (body-asks a (c .before .before .before .before .before .before .before .before .before .before .before .before .before .if1 .left) (sym (c .before .before .before .before .before .before .before .before .before .before .before .has .ensures) ∙ c .before .before .before .before .before .before .before .before .before .before .if2 .left) refl (c .before .before .before .before .before .before .before .before .root .ensures))) .good)
+reference-put-requires t c κs = let P = c .before .before .before .before .before .before .before .before .before .before .before .before .before .before .before .pre in let z = P .1 .0 in let n = P .1 .1 in let o = P .1 .2 in let rank = P .1 .3 in let a = P .1 .4 in (exp-room a, (as-read (c .before .before .before .before .before .before .visit .result) (c .before .before .before .before .before .decode .ensures) (c .before .before .before .before .before .before .visit .ensures z n o rank (body-asks a (c .before .before .before .before .before .before .before .before .before .before .before .before .before .before .if1 .left) (sym (c .before .before .before .before .before .before .before .before .before .before .before .before .has .ensures) ∙ c .before .before .before .before .before .before .before .before .before .before .before .if2 .left) refl (c .before .before .before .before .before .before .before .before .before .root .ensures)))) .good)
 
 reference-cut-requires : (t : ℕ) → reference-lts.Need-cut-requires (reference-claims t) (reference-at t) reference.Post
-reference-cut-requires t c κs = let P = c .before .before .before .before .before .before .before .before .before .before .before .before .before .before .before .before .pre in let z = P .1 .0 in let n = P .1 .1 in let o = P .1 .2 in let rank = P .1 .3 in let a = P .1 .4 in (c .before .before .before .before .before .before .before .visit .ensures z n o rank (body-asks a (c .before .before .before .before .before .before .before .before .before .before .before .before .before .before .before .if1 .left) (sym (c .before .before .before .before .before .before .before .before .before .before .before .before .before .has .ensures) ∙ c .before .before .before .before .before .before .before .before .before .before .before .before .if2 .left) refl (c .before .before .before .before .before .before .before .before .before .before .root .ensures))) .held .whole
+reference-cut-requires t c κs = let P = c .before .before .before .before .before .before .before .before .before .before .before .before .before .before .before .before .before .pre in let z = P .1 .0 in let n = P .1 .1 in let o = P .1 .2 in let rank = P .1 .3 in let a = P .1 .4 in (as-read (c .before .before .before .before .before .before .before .before .visit .result) (c .before .before .before .before .before .before .before .decode .ensures) (c .before .before .before .before .before .before .before .before .visit .ensures z n o rank (body-asks a (c .before .before .before .before .before .before .before .before .before .before .before .before .before .before .before .before .if1 .left) (sym (c .before .before .before .before .before .before .before .before .before .before .before .before .before .before .has .ensures) ∙ c .before .before .before .before .before .before .before .before .before .before .before .before .before .if2 .left) refl (c .before .before .before .before .before .before .before .before .before .before .before .root .ensures)))) .held .whole
 
 reference-returns-5 : (t : ℕ) → reference-lts.Need-returns-5 (reference-claims t) (reference-at t) reference.Post
-reference-returns-5 t c = λ z n o rank a. ref-cut a (c .before .before .before .before .before .before .before .before .before .before .before .before .before .before .before .before .if1 .left) (sym (c .before .before .before .before .before .before .before .before .before .before .before .before .before .before .has .ensures) ∙ c .before .before .before .before .before .before .before .before .before .before .before .before .before .if2 .left) refl (c .before .before .before .before .before .before .before .before .before .before .before .root .ensures) (c .before .before .before .before .before .before .before .before .visit .ensures z n o rank (body-asks a (c .before .before .before .before .before .before .before .before .before .before .before .before .before .before .before .before .if1 .left) (sym (c .before .before .before .before .before .before .before .before .before .before .before .before .before .before .has .ensures) ∙ c .before .before .before .before .before .before .before .before .before .before .before .before .before .if2 .left) refl (c .before .before .before .before .before .before .before .before .before .before .before .root .ensures))) (c .before .before .before .before .before .before .read .given .1) (c .before .before .before .before .if3 .left) (c .before .before .put .ensures) (c .cut .ensures)
+reference-returns-5 t c = λ z n o rank a. ref-cut a (c .before .before .before .before .before .before .before .before .before .before .before .before .before .before .before .before .before .if1 .left) (sym (c .before .before .before .before .before .before .before .before .before .before .before .before .before .before .before .has .ensures) ∙ c .before .before .before .before .before .before .before .before .before .before .before .before .before .before .if2 .left) refl (c .before .before .before .before .before .before .before .before .before .before .before .before .root .ensures) (as-read (c .before .before .before .before .before .before .before .before .before .visit .result) (c .before .before .before .before .before .before .before .before .decode .ensures) (c .before .before .before .before .before .before .before .before .before .visit .ensures z n o rank (body-asks a (c .before .before .before .before .before .before .before .before .before .before .before .before .before .before .before .before .before .if1 .left) (sym (c .before .before .before .before .before .before .before .before .before .before .before .before .before .before .before .has .ensures) ∙ c .before .before .before .before .before .before .before .before .before .before .before .before .before .before .if2 .left) refl (c .before .before .before .before .before .before .before .before .before .before .before .before .root .ensures)))) (c .before .before .before .before .before .before .degree .given .1) (c .before .before .before .before .if3 .left) (c .before .before .put .ensures) (c .cut .ensures)
 
 abbrev splits-Inv-loop : splits-lts.InvT-loop
 splits-Inv-loop nodes expressions full set₀ tally₀ levels m i before best₀ kept₀ l₀ set tally best kept l =
@@ -257,32 +271,41 @@ splits-loop-holds t c = (refl, λ z n o rank a. going-first a)
 splits-pair-requires : (t : ℕ) → splits-lts.Need-pair-requires (splits-claims t) (splits-at t) splits.Post splits-Inv-loop splits-μ-loop
 splits-pair-requires t c κs = let P = c .before .before .before .before .before .before .pre in let z = P .1 .0 in let n = P .1 .1 in let o = P .1 .2 in let rank = P .1 .3 in let a = P .1 .4 in (omega (arith, P .0), (z, n, o, rank, turn-asks a (c .before .before .before .loop .inv .1 z n o rank a) (c .before .before .loop-test .taken)))
 
+splits-decode-requires : (t : ℕ) → splits-lts.Need-decode-requires (splits-claims t) (splits-at t) splits.Post splits-Inv-loop splits-μ-loop
+splits-decode-requires t c κs = search needs
+
 splits-is-refused-requires : (t : ℕ) → splits-lts.Need-is-refused-requires (splits-claims t) (splits-at t) splits.Post splits-Inv-loop splits-μ-loop
 splits-is-refused-requires t c κs = search needs
 
 splits-returns : (t : ℕ) → splits-lts.Need-returns (splits-claims t) (splits-at t) splits.Post splits-Inv-loop splits-μ-loop
-splits-returns t c = λ z n o rank a. turn-refused a (c .before .before .before .before .before .before .loop .inv .1 z n o rank a) (c .before .before .before .before .before .loop-test .taken) (c .before .before .pair .ensures z n o rank (turn-asks a (c .before .before .before .before .before .before .loop .inv .1 z n o rank a) (c .before .before .before .before .before .loop-test .taken))) (sym (c .before .is-refused .ensures) ∙ c .if1 .taken)
+splits-returns t c = λ z n o rank a. to-code (c .before .before .before .pair .result) (sym (c .before .before .decode .ensures)) (turn-refused a (c .before .before .before .before .before .before .before .loop .inv .1 z n o rank a) (c .before .before .before .before .before .before .loop-test .taken) (as-read (c .before .before .before .pair .result) (c .before .before .decode .ensures) (c .before .before .before .pair .ensures z n o rank (turn-asks a (c .before .before .before .before .before .before .before .loop .inv .1 z n o rank a) (c .before .before .before .before .before .before .loop-test .taken)))) (sym (c .before .is-refused .ensures) ∙ c .if1 .taken))
 
 splits-better-requires : (t : ℕ) → splits-lts.Need-better-requires (splits-claims t) (splits-at t) splits.Post splits-Inv-loop splits-μ-loop
-splits-better-requires t c κs = let P = c .before .before .before .before .before .before .before .before .before .before .before .pre in let z = P .1 .0 in let n = P .1 .1 in let o = P .1 .2 in let rank = P .1 .3 in let a = P .1 .4 in ((c .before .before .before .before .before .before .before .before .loop .inv .1 z n o rank a) .good, (c .before .before .before .before .pair .ensures z n o rank (turn-asks a (c .before .before .before .before .before .before .before .before .loop .inv .1 z n o rank a) (c .before .before .before .before .before .before .before .loop-test .taken))) .good)
+splits-better-requires t c κs = let P = c .before .before .before .before .before .before .before .before .before .before .before .before .pre in let z = P .1 .0 in let n = P .1 .1 in let o = P .1 .2 in let rank = P .1 .3 in let a = P .1 .4 in ((c .before .before .before .before .before .before .before .before .before .loop .inv .1 z n o rank a) .good, (as-read (c .before .before .before .before .before .pair .result) (c .before .before .before .before .decode .ensures) (c .before .before .before .before .before .pair .ensures z n o rank (turn-asks a (c .before .before .before .before .before .before .before .before .before .loop .inv .1 z n o rank a) (c .before .before .before .before .before .before .before .before .loop-test .taken)))) .good)
 
 splits-settled-requires : (t : ℕ) → splits-lts.Need-settled-requires (splits-claims t) (splits-at t) splits.Post splits-Inv-loop splits-μ-loop
-splits-settled-requires t c κs = let P = c .before .before .before .before .before .before .before .before .before .before .before .before .before .before .pre in let z = P .1 .0 in let n = P .1 .1 in let o = P .1 .2 in let rank = P .1 .3 in let a = P .1 .4 in (c .before .before .better .ensures .good, a .asks .holds .good)
+splits-settled-requires t c κs = let P = c .before .before .before .before .before .before .before .before .before .before .before .before .before .before .before .pre in let z = P .1 .0 in let n = P .1 .1 in let o = P .1 .2 in let rank = P .1 .3 in let a = P .1 .4 in (c .before .before .better .ensures .good, a .asks .holds .good)
+
+splits-encode-requires : (t : ℕ) → splits-lts.Need-encode-requires (splits-claims t) (splits-at t) splits.Post splits-Inv-loop splits-μ-loop
+splits-encode-requires t c κs = let P = c .before .before .before .before .before .before .before .before .before .before .before .before .before .before .before .before .before .pre in let z = P .1 .0 in let n = P .1 .1 in let o = P .1 .2 in let rank = P .1 .3 in let a = P .1 .4 in let g = turn-settled a (c .before .before .before .before .before .before .before .before .before .before .before .before .before .before .loop .inv .1 z n o rank a) (c .before .before .before .before .before .before .before .before .before .before .before .before .before .loop-test .taken) (as-read (c .before .before .before .before .before .before .before .before .before .before .pair .result) (c .before .before .before .before .before .before .before .before .before .decode .ensures) (c .before .before .before .before .before .before .before .before .before .before .pair .ensures z n o rank (turn-asks a (c .before .before .before .before .before .before .before .before .before .before .before .before .before .before .loop .inv .1 z n o rank a) (c .before .before .before .before .before .before .before .before .before .before .before .before .before .loop-test .taken)))) (sym (c .before .before .before .before .before .before .before .before .is-refused .ensures) ∙ c .before .before .before .before .before .before .before .if1 .left) (c .before .before .before .before .better .ensures) (sym (c .before .settled .ensures) ∙ c .if2 .taken) in omega (arith, g .low, a .asks .holds .within, a .asks .holds .low)
 
 splits-returns-2 : (t : ℕ) → splits-lts.Need-returns-2 (splits-claims t) (splits-at t) splits.Post splits-Inv-loop splits-μ-loop
-splits-returns-2 t c = λ z n o rank a. turn-settled a (c .before .before .before .before .before .before .before .before .before .before .before .before .before .loop .inv .1 z n o rank a) (c .before .before .before .before .before .before .before .before .before .before .before .before .loop-test .taken) (c .before .before .before .before .before .before .before .before .before .pair .ensures z n o rank (turn-asks a (c .before .before .before .before .before .before .before .before .before .before .before .before .before .loop .inv .1 z n o rank a) (c .before .before .before .before .before .before .before .before .before .before .before .before .loop-test .taken))) (sym (c .before .before .before .before .before .before .before .before .is-refused .ensures) ∙ c .before .before .before .before .before .before .before .if1 .left) (c .before .before .before .before .better .ensures) (sym (c .before .settled .ensures) ∙ c .if2 .taken)
+splits-returns-2 t c = λ z n o rank a. to-code (c .encode .result) (c .encode .ensures) (turn-settled a (c .before .before .before .before .before .before .before .before .before .before .before .before .before .before .before .loop .inv .1 z n o rank a) (c .before .before .before .before .before .before .before .before .before .before .before .before .before .before .loop-test .taken) (as-read (c .before .before .before .before .before .before .before .before .before .before .before .pair .result) (c .before .before .before .before .before .before .before .before .before .before .decode .ensures) (c .before .before .before .before .before .before .before .before .before .before .before .pair .ensures z n o rank (turn-asks a (c .before .before .before .before .before .before .before .before .before .before .before .before .before .before .before .loop .inv .1 z n o rank a) (c .before .before .before .before .before .before .before .before .before .before .before .before .before .before .loop-test .taken)))) (sym (c .before .before .before .before .before .before .before .before .before .is-refused .ensures) ∙ c .before .before .before .before .before .before .before .before .if1 .left) (c .before .before .before .before .before .better .ensures) (sym (c .before .before .settled .ensures) ∙ c .before .if2 .taken))
 
 splits-add-l : (t : ℕ) → splits-lts.Need-add-l (splits-claims t) (splits-at t) splits.Post splits-Inv-loop splits-μ-loop
-splits-add-l t c = let P = c .before .before .before .before .before .before .before .before .before .before .before .before .before .before .before .before .pre in let z = P .1 .0 in let n = P .1 .1 in let o = P .1 .2 in let rank = P .1 .3 in let a = P .1 .4 in omega (arith, c .before .before .before .before .before .before .before .before .before .before .before .before .loop-test .taken, a .asks .holds .within, a .asks .holds .low)
+splits-add-l t c = let P = c .before .before .before .before .before .before .before .before .before .before .before .before .before .before .before .before .before .pre in let z = P .1 .0 in let n = P .1 .1 in let o = P .1 .2 in let rank = P .1 .3 in let a = P .1 .4 in omega (arith, c .before .before .before .before .before .before .before .before .before .before .before .before .before .loop-test .taken, a .asks .holds .within, a .asks .holds .low)
 
 splits-loop-less : (t : ℕ) → splits-lts.Need-loop-less (splits-claims t) (splits-at t) splits.Post splits-Inv-loop splits-μ-loop
-splits-loop-less t c = omega (arith, c .before .before .before .before .before .before .before .before .before .before .before .before .loop-test .taken)
+splits-loop-less t c = omega (arith, c .before .before .before .before .before .before .before .before .before .before .before .before .before .loop-test .taken)
 
 splits-loop-again : (t : ℕ) → splits-lts.Need-loop-again (splits-claims t) (splits-at t) splits.Post splits-Inv-loop splits-μ-loop
-splits-loop-again t c = (c .before .before .before .before .before .before .before .before .before .before .before .before .before .loop .inv .0, λ z n o rank a. going-on a (c .before .before .before .before .before .before .before .before .before .before .before .before .before .loop .inv .1 z n o rank a) (c .before .before .before .before .before .before .before .before .before .before .before .before .loop-test .taken) (c .before .before .before .before .before .before .before .before .before .pair .ensures z n o rank (turn-asks a (c .before .before .before .before .before .before .before .before .before .before .before .before .before .loop .inv .1 z n o rank a) (c .before .before .before .before .before .before .before .before .before .before .before .before .loop-test .taken))) (sym (c .before .before .before .before .before .before .before .before .is-refused .ensures) ∙ c .before .before .before .before .before .before .before .if1 .left) (c .before .before .before .before .better .ensures) (sym (c .before .settled .ensures) ∙ c .if2 .left))
+splits-loop-again t c = (c .before .before .before .before .before .before .before .before .before .before .before .before .before .before .loop .inv .0, λ z n o rank a. going-on a (c .before .before .before .before .before .before .before .before .before .before .before .before .before .before .loop .inv .1 z n o rank a) (c .before .before .before .before .before .before .before .before .before .before .before .before .before .loop-test .taken) (as-read (c .before .before .before .before .before .before .before .before .before .before .pair .result) (c .before .before .before .before .before .before .before .before .before .decode .ensures) (c .before .before .before .before .before .before .before .before .before .before .pair .ensures z n o rank (turn-asks a (c .before .before .before .before .before .before .before .before .before .before .before .before .before .before .loop .inv .1 z n o rank a) (c .before .before .before .before .before .before .before .before .before .before .before .before .before .loop-test .taken)))) (sym (c .before .before .before .before .before .before .before .before .is-refused .ensures) ∙ c .before .before .before .before .before .before .before .if1 .left) (c .before .before .before .before .better .ensures) (sym (c .before .settled .ensures) ∙ c .if2 .left))
+
+splits-encode-requires-2 : (t : ℕ) → splits-lts.Need-encode-requires-2 (splits-claims t) (splits-at t) splits.Post splits-Inv-loop splits-μ-loop
+splits-encode-requires-2 t c κs = let P = c .before .before .before .before .pre in let z = P .1 .0 in let n = P .1 .1 in let o = P .1 .2 in let rank = P .1 .3 in let a = P .1 .4 in let g = end-gives a (c .before .loop .inv .1 z n o rank a) (c .loop-test .left) in omega (arith, g .low, a .asks .holds .within, a .asks .holds .low)
 
 splits-returns-3 : (t : ℕ) → splits-lts.Need-returns-3 (splits-claims t) (splits-at t) splits.Post splits-Inv-loop splits-μ-loop
-splits-returns-3 t c = λ z n o rank a. end-gives a (c .before .loop .inv .1 z n o rank a) (c .loop-test .left)
+splits-returns-3 t c = λ z n o rank a. to-code (c .encode2 .result) (c .encode2 .ensures) (end-gives a (c .before .before .loop .inv .1 z n o rank a) (c .before .loop-test .left))
 
 visit-enter-requires : (t : ℕ) → visit-lts.Need-enter-requires (visit-claims t) (visit-at t) visit.Post
 visit-enter-requires t c κs = c .before .pre .1 .4 .holds .whole
@@ -345,8 +368,12 @@ pub +pair+product+reference+splits+visit-spec : {M : Type 1} → statement M
       child-reads.Learnt,
       visit-below t,
       visit.Post,
+      decode-reads.Asked,
+      decode-reads.Learnt,
       passed-reads.Asked,
       passed-reads.Learnt,
+      encode-reads.Asked,
+      encode-reads.Learnt,
       kind-at-reads.Asked,
       kind-at-reads.Learnt,
       larger-reads.Asked,
@@ -356,15 +383,18 @@ pub +pair+product+reference+splits+visit-spec : {M : Type 1} → statement M
     pair.Post
     (pair-child-requires t)
     (pair-visit-requires t)
+    (pair-decode-requires t)
     (pair-enum-known-first t)
     (pair-passed-requires t)
+    (pair-encode-requires t)
     (pair-returns t)
     (pair-child-requires-2 t)
     (pair-visit-requires-2 t)
-    (pair-enum-known-second t)
+    (pair-decode-requires-2 t)
+    (pair-enum-known-b t)
     (pair-returns-2 t)
     (pair-kind-at-requires t)
-    (pair-add-t23 t)
+    (pair-add-result t)
     (pair-returns-3 t)
     (pair-larger-requires t)
     (pair-returns-4 t))
@@ -408,6 +438,8 @@ pub +pair+product+reference+splits+visit-spec : {M : Type 1} → statement M
       root-reads.Learnt,
       visit-below t,
       visit.Post,
+      decode-reads.Asked,
+      decode-reads.Learnt,
       put-reads.Asked,
       put-reads.Learnt,
       cut-reads.Asked,
@@ -422,7 +454,8 @@ pub +pair+product+reference+splits+visit-spec : {M : Type 1} → statement M
     (reference-root-requires t)
     (reference-sub-visit t)
     (reference-visit-requires t)
-    (reference-enum-known-read t)
+    (reference-decode-requires t)
+    (reference-enum-known-degree t)
     (reference-returns-3 t)
     (reference-returns-4 t)
     (reference-put-requires t)
@@ -431,12 +464,16 @@ pub +pair+product+reference+splits+visit-spec : {M : Type 1} → statement M
     (λ t. splits-lts.spec (
       pair-below t,
       pair.Post,
+      decode-reads.Asked,
+      decode-reads.Learnt,
       is-refused-reads.Asked,
       is-refused-reads.Learnt,
       better-reads.Asked,
       better-reads.Learnt,
       settled-reads.Asked,
       settled-reads.Learnt,
+      encode-reads.Asked,
+      encode-reads.Learnt,
     )
     (splits-at t)
     splits.Post
@@ -444,14 +481,17 @@ pub +pair+product+reference+splits+visit-spec : {M : Type 1} → statement M
     splits-μ-loop
     (splits-loop-holds t)
     (splits-pair-requires t)
+    (splits-decode-requires t)
     (splits-is-refused-requires t)
     (splits-returns t)
     (splits-better-requires t)
     (splits-settled-requires t)
+    (splits-encode-requires t)
     (splits-returns-2 t)
     (splits-add-l t)
     (splits-loop-less t)
     (splits-loop-again t)
+    (splits-encode-requires-2 t)
     (splits-returns-3 t))
     λ t. visit-lts.spec (
       enter-reads.Asked,

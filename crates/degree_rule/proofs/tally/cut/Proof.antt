@@ -1,5 +1,4 @@
 -- `degree_rule::tally::cut` meets its contract. Assumes nothing.
-use native.Mathlib.Omega.{arith}
 use Rattle.degree_rule.proofs.Counts.{cut-more, cut-less}
 use borrow.Author.Needs.{needs}
 use Rattle.degree_rule.proofs.tally.cut.Statement.{statement}

@@ -1,6 +1,5 @@
 -- `degree_search::admitted::search_admitted` meets its contract: each need is one lemma of proofs/Questions.antt. Assumes nothing.
 use mathlib.Core.Path.{refl}
-use native.Mathlib.Omega.{arith}
 use Rattle.degree_rule.specs.Laws.{not-taken, not-left}
 use Rattle.degree_search.proofs.Questions.{no-identity, no-bits, no-expression, range, choose-asks, chosen}
 use borrow.Author.Needs.{needs}

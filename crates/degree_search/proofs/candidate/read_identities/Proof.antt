@@ -1,5 +1,5 @@
 -- `degree_search::candidate::read_identities` meets its contract: what is left to read, after the first k, is all that there is. Assumes nothing.
-use Prim.Native.Nat.{ℕ, _-_, _≤_}
+use Prim.Native.Nat.{ℕ, _-_}
 use mathlib.Core.Path.{refl}
 use mathlib.Core.List.{List}
 use native.Mathlib.Omega.{arith}

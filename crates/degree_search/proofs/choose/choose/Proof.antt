@@ -1,10 +1,9 @@
 -- `degree_search::choose::choose` meets its contract: each need is one lemma of proofs/Choices.antt. Assumes nothing.
-use Prim.Native.Nat.{ℕ, _+_, _-_, _≤_}
+use Prim.Native.Nat.{ℕ, _+_, _-_}
 use mathlib.Core.List.{List}
 use native.Mathlib.Omega.{arith}
 use borrow.Author.Needs.{needs}
 use Rattle.pool.specs.Ranking.{Tabling}
-use Rattle.sets.specs.Empty.{blank-good}
 use Rattle.degree_search.specs.Choosing.{Asks}
 use Rattle.degree_search.proofs.Choices.{calm-tag, Trying, trying-first, tried, all-asks, met-bad, met-over, trying-on}
 use Rattle.degree_search.proofs.choose.choose.Statement.{statement}

@@ -5,7 +5,7 @@ use mathlib.Core.Path.{refl}
 use mathlib.Core.Logic.{⊎-elim, inl, inr}
 use native.Mathlib.Omega.{arith}
 use borrow.Author.Needs.{needs}
-use Rattle.full_degrees.proofs.Nodes.{inside, size, part-asks, part-less, leaf-gives, exp-room, some-levels, body-asks, body-less, body-gives, left-part, right-part, only-part, first-part, second-part, third-part, single-gives, sum-gives, mul-gives, muladd-gives, seen-gives, store-gives}
+use Rattle.full_degrees.proofs.Nodes.{inside, part-asks, part-less, leaf-gives, exp-room, some-levels, body-asks, body-less, body-gives, left-part, right-part, only-part, first-part, second-part, third-part, single-gives, sum-gives, mul-gives, muladd-gives, seen-gives, store-gives}
 use Prim.Native.Nat.{ℕ, _<_}
 use borrow.Fn.Kinds.{In}
 use borrow.Fn.PlainCycle.{Measures, is, falls, and}
