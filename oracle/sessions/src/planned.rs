@@ -53,10 +53,9 @@ impl Port {
 
     fn walk(&self, input: &Input, walk: Walk, segment: &Segment) -> Result<Answer, String> {
         let sent = Sent::new(input, segment);
-        let stages = stages(walk);
-        self.refuses_a_fault(input, stages[0], &sent.lent)?;
         let mut lent = sent.lent.clone();
-        for stage in stages {
+        for stage in stages(walk) {
+            self.refuses_a_fault(input, stage, &lent)?;
             let before = lent.clone();
             let number = stage.call(&mut lent);
             if number != 0 {
