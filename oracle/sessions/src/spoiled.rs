@@ -72,10 +72,7 @@ impl Fault {
             Fault::Kind | Fault::Prime | Fault::SourceCount => {
                 self.put_into_step(any, &mut lent.lists[list.expect("a step")]);
             }
-            Fault::ShortPlan => {
-                lent.plan.pop();
-            }
-            Fault::LongPlan => lent.plan.push(0),
+            Fault::ShortPlan | Fault::LongPlan => self.put_into_plan(&mut lent.plan),
             Fault::ShortFrames => {
                 lent.frames.pop();
             }
@@ -83,6 +80,19 @@ impl Fault {
             Fault::GarbageFrames => lent.frames.extend([0, 5, 4, 0, 0, 0, 0]),
         }
         stage
+    }
+
+    /// One byte, or two where one would make it well formed.
+    fn put_into_plan(self, plan: &mut Vec<u8>) {
+        loop {
+            match self {
+                Fault::LongPlan => plan.push(0),
+                _ => plan.truncate(plan.len().saturating_sub(1)),
+            }
+            if Plan::decode(plan).is_none() {
+                return;
+            }
+        }
     }
 
     fn put_into_step(self, any: usize, list: &mut [u8]) {
