@@ -246,3 +246,34 @@ fn push_reference(bytes: &mut Vec<u8>, reference: &Reference, literals: &mut Vec
         bytes.extend(u16::try_from(number).expect("a number of a record").to_be_bytes());
     }
 }
+
+#[cfg(test)]
+mod tests {
+    use super::*;
+
+    const LINES: [&str; 3] = [
+        "first exp:0' = add number:-5 cm:3@d1,p2,t7,e9",
+        "i tmp:1@e4 = muladd number:7 tmpExp:2@d3 x:0",
+        "last f:0 = step05",
+    ];
+
+    /// Whatever byte of a list a walk would change, its answer would be another.
+    #[test]
+    fn every_byte_of_a_list_is_read_back() {
+        let mut segment = Segment { counter: 6, ..Segment::default() };
+        for line in LINES {
+            assert_eq!(segment.take_line(line), Ok(true));
+        }
+        let sent = Sent::new(&Input::default(), &segment);
+        assert_eq!(sent.segment_of(&sent.lent), Ok(segment.clone()));
+        for list in 0..3 {
+            for at in 0..sent.lent.lists[list].len() {
+                let mut lent = sent.lent.clone();
+                lent.lists[list][at] ^= 1;
+                assert_ne!(sent.segment_of(&lent), Ok(segment.clone()), "{} {}", list, at);
+            }
+        }
+        let counted = Lent { counter: [7], ..sent.lent.clone() };
+        assert_ne!(sent.segment_of(&counted), Ok(segment));
+    }
+}
