@@ -61,7 +61,7 @@ def fill(text, answers, needs):
     def definition(m):
         return m.group(0)[:-1] + answers[m.group(1)] if m.group(1) in answers else m.group(0)
 
-    text = re.sub(r"(?m)^((?:Inv|μ)-\S+)(?: [^=\n]*)? =\s+\?$", definition, text)
+    text = re.sub(r"(?m)^((?:\S+-)?(?:Inv|μ)-\S+)(?: [^=\n]*)? =\s+\?$", definition, text)
     return re.sub(r"(?m)^(?:unfolding .*\n)?(\S+)( (?:t )?c(?: κs)?) =.*(?:\n    .*)*", answer, text)
 
 

@@ -1,2 +1,4 @@
 -- What the exported functions' contracts cite.
 pub mod Numbered
+pub mod Plans
+pub mod Searches

@@ -3,14 +3,19 @@
 use Prim.Native.Nat.{ℕ, _≤_, _<_}
 use mathlib.Core.Path.{_≡_, refl, sym, _∙_, ap, subst}
 use mathlib.Core.Bool.{Bool, true, false, _&&_}
-use mathlib.Core.List.{List}
-use lib.ListN.{length, take}
+use mathlib.Core.List.{List, _++_}
+use lib.ListN.{length, take, replicate}
+use native.Mathlib.Omega.{arith}
 use lib.Dec.{leb}
 use borrow.Author.Tests.{le-leb, lt-leb}
 use Rattle.meaning.specs.Refusals.{Answer, done, _then_}
 use Rattle.pool.specs.Tabled.{tabled}
 use Rattle.pool.specs.Ranking.{Tabling}
 use Rattle.plans.specs.Plan.{numberLimit, q2expCount}
+use Rattle.plans.specs.Columns.{recordLimit}
+use Rattle.sections.specs.Sections.{widthCount}
+use Rattle.sections.specs.Answer.{MappedIs}
+use Rattle.sections.specs.declared.«map_section».Mapped.{Mapped}
 use Rattle.lent_lists.specs.Records.{goodLists}
 use Rattle.fixing.specs.ProverCode.{lastCounter}
 use Rattle.map_records.specs.Mapping.{mapped}
@@ -22,10 +27,13 @@ use Rattle.planning.specs.declared.answer.Plan.{Plan}
 use Rattle.planning.specs.declared.answer.Planning.{Planning}
 use Rattle.planning.specs.declared.answer.Planning.the-variants as planning
 use Rattle.plan_walks.specs.Walks.{lastDomain, goodSegment, Walked, walkSays, listsAfter, Does, WalkIs}
-use Rattle.plan_walks.specs.Standing.{Standing, plannedIn}
-use Rattle.plan_walks.specs.Fix.{Tabled}
+use Rattle.plan_walks.specs.Standing.{Standing, plannedIn, Tabled}
 use Rattle.plan_walks.specs.declared.walk.Walk.{Walk}
 use Rattle.plan_walks.specs.declared.walk.Walk.the-variants as walk
+use Rattle.plan_walks.specs.Query.{Placed}
+use Rattle.plan_walks.proofs.Fixes.{records-few}
+use Rattle.plan_walks.proofs.Dims.{dims-room, dims-are}
+use Rattle.plan_walks.proofs.Queries.{front-back, placed-positions}
 
 -- ---- the segment
 
@@ -90,6 +98,37 @@ module _ {s b : List ℕ} {own : Bool} {w x table ss ds cs : List ℕ} {r : Plan
     pub in-tables : (e : length table ≡ numberLimit) → Tabled (standing e) ss (k .records)
     unfolding standing
     in-tables e = record { sectionsIs = refl; recordsIs = refl }
+
+    pub dims-in : (e : length table ≡ numberLimit) → take (k .records) ds ≡ plannedIn (standing e) .mapping .dims
+    unfolding standing
+    dims-in e = dims-are (standing e)
+
+    pub dims-fit : length table ≡ numberLimit → k .records ≤ length ds
+    unfolding standing
+    dims-fit e = dims-room (standing e)
+
+    pub sections-in : (e : length table ≡ numberLimit) → take (k .records) ss ≡ plannedIn (standing e) .mapping .sections
+    unfolding standing
+    sections-in e = standing e .stands .holds .sections
+
+    pub sections-fit : length table ≡ numberLimit → k .records ≤ length ss
+    unfolding standing
+    sections-fit e = omega (arith, standing e .stands .holds .sectionsSize, records-few (standing e))
+
+    pub records-fit : length table ≡ numberLimit → k .records ≤ recordLimit
+    unfolding standing
+    records-fit e = records-few (standing e)
+
+    -- the positions of the records, where map_section leaves them at the front of a table
+    pub placed-in :
+        (e : length table ≡ numberLimit) (rest : List ℕ) {ps ps′ ws ws′ : List ℕ} {y : Mapped} → ps ≡ replicate (k .records) 0 → length ws ≡ widthCount
+        → MappedIs (take (k .records) ss) (take (k .records) ds) ps ps′ ws ws′ y → length ps′ ≡ length ps → Placed (standing e) ss ds (ps′ ++ rest) (k .records)
+    unfolding standing
+    placed-in e rest {ps′ = ps′} h q m f = record {
+      tabled = record { sectionsIs = refl; recordsIs = refl };
+      dimsIs = refl;
+      positionsAre = front-back (k .records) ps′ rest h f ∙ placed-positions (standing e) refl (sections-in e) (dims-in e) h q m;
+    }
 
     answered : (e : length table ≡ numberLimit) → g .answer ≡ done (plannedIn (standing e))
     unfolding standing

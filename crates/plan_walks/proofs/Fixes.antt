@@ -24,13 +24,14 @@ use Rattle.fixing.specs.ProverCode.{temporaries, proverVerdict, listAfter}
 use Rattle.fixing.specs.Answers.{ProverCodeIs, fixedOf, fixedSays}
 use Rattle.fixing.specs.declared.fix_prover_code.Fixed.{Fixed}
 use Rattle.plan_walks.specs.Walks.{walked, ruled, walkSays, listsAfter, Does}
-use Rattle.plan_walks.specs.Standing.{Standing, tables, plannedIn}
-use Rattle.plan_walks.specs.Fix.{cmsOf, rulesIn, fixWith, fixBy, CmsAsked, CmsGiven, Tabled}
+use Rattle.plan_walks.specs.Standing.{Standing, tables, plannedIn, Tabled}
+use Rattle.plan_walks.specs.Cms.{cmsOf, CmsAsked, CmsGiven}
+use Rattle.plan_walks.specs.Fix.{rulesIn, fixWith, fixBy}
 use Rattle.plan_walks.specs.declared.walk.Walk.{Walk}
 
 -- ---- tables of a plan
 
-numbers-few : (a c k : ℕ) (ss : List ℕ) → length (numbersIn a c k ss) ≤ length ss
+pub numbers-few : (a c k : ℕ) (ss : List ℕ) → length (numbersIn a c k ss) ≤ length ss
 numbers-few a c k [] = omega arith
 numbers-few a c k (s ∷ ss) = by (within a c s) (numbers-few a c (suc k) ss)
   where
@@ -88,7 +89,7 @@ module _ {b w x table cs : List ℕ} (z : Standing b w x table cs) where
       few = subst (λ k. k ≤ recordLimit) (a .recordsIs) records-few;
     }
 
-    sections-are : take n ss ≡ mapped b (tabled (tables z)) .sections
+    pub sections-are : take n ss ≡ mapped b (tabled (tables z)) .sections
     sections-are = subst (λ (l : List ℕ). take n l ≡ mapped b (tabled (tables z)) .sections) (a .sectionsIs) (subst (λ k. take k (z .sections) ≡ mapped b (tabled (tables z)) .sections) (a .recordsIs) (z .stands .holds .sections))
 
     module _ (inN : Bool) {cms cms′ : List ℕ} {r : ℕ} (room : length cms ≡ recordLimit) (g : CmsGiven inN ss n cms cms′ r) where

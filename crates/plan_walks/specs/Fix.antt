@@ -1,31 +1,25 @@
 -- FIXING BY A PLAN: the rules and the cm records that a plan gives to `fix_prover_code`.
 -- Assumes nothing: these are definitions.
-use Prim.Native.Nat.{ℕ, _≤_}
+use Prim.Native.Nat.{ℕ}
 use mathlib.Core.Path.{_≡_}
-use mathlib.Core.Bool.{Bool, cond}
+use mathlib.Core.Bool.{Bool}
 use mathlib.Core.List.{List, [], _∷_}
-use lib.ListN.{length, take, replicate}
+use lib.ListN.{replicate}
 use lib.Dec.{eqb}
 use Rattle.kinds.specs.Write.{write}
 use Rattle.meaning.specs.Refusals.{Answer}
 use Rattle.frames.specs.Order.{expressionLimit}
-use Rattle.plans.specs.Columns.{recordLimit}
-use Rattle.map_records.specs.Mapping.{Mapping, cm1N, cm4N, twin}
-use Rattle.plan_tables.specs.Tables.{rules, numbersIn}
-use Rattle.plan_tables.specs.Listed.{Listed}
+use Rattle.plan_tables.specs.Tables.{rules}
 use Rattle.fixing.specs.ProverCode.{temporaries, proverVerdict, listAfter}
 use Rattle.planning.specs.Planning.{Planned}
 use Rattle.plan_walks.specs.Walks.{goodSegment, Walked, walked, ruled, Does, WalkIs}
-use Rattle.plan_walks.specs.Standing.{Standing, plannedIn}
+use Rattle.plan_walks.specs.Standing.{Standing, plannedIn, Tabled}
+use Rattle.plan_walks.specs.Cms.{cmsOf}
 use Rattle.plan_walks.specs.declared.walk.Walk.{Walk}
 
 -- the domain "n"
 abbrev pub isN : ℕ → Bool
 isN domain = eqb domain 0
-
--- the records of cm numbers in a domain
-abbrev pub cmsOf : Bool → List ℕ → List ℕ
-cmsOf inN ss = cond inN (numbersIn cm1N cm4N 0 ss) (numbersIn (twin cm1N) (twin cm4N) 0 ss)
 
 -- what each of 512 expressions becomes: those that there are, and 0 for the others
 abbrev pub rulesIn : Bool → List ℕ → Planned → List ℕ
@@ -48,23 +42,12 @@ FixIs s b domain counter first i last first′ i′ last′ r =
     WalkIs s b (goodSegment domain counter first i last) (fixBy counter first i last (isN domain) b) (first ∷ i ∷ last ∷ []) (first′ ∷ i′ ∷ last′ ∷ []) r
 
 -- ── parts ────────────────────────────────────────────────────────────────────
-pub record CmsAsked (ss : List ℕ) (n : ℕ) : Type 0 where
-  pub size : length ss ≡ recordLimit
-  pub few : n ≤ recordLimit
-
-abbrev pub CmsGiven : Bool → List ℕ → ℕ → List ℕ → List ℕ → ℕ → Type 0
-CmsGiven inN ss n cms cms′ r = Listed cms cms′ r (cmsOf inN (take n ss))
-
 abbrev pub PlannedAsked : List ℕ → List ℕ → List ℕ → List ℕ → List ℕ → List ℕ → Type 0
 PlannedAsked b w x table cs rs = Standing b w x table cs × (rs ≡ replicate expressionLimit 0)
 
 -- for whichever pool and plan they are
 abbrev pub RulesGiven : Bool → List ℕ → List ℕ → List ℕ → List ℕ → List ℕ → List ℕ → Type 0
 RulesGiven inN b w x table cs rs = (z : Standing b w x table cs) → rs ≡ rulesIn inN b (plannedIn z)
-
-pub record Tabled {b w x table cs : List ℕ} (z : Standing b w x table cs) (ss : List ℕ) (records : ℕ) : Type 0 where
-  pub sectionsIs : z .sections ≡ ss
-  pub recordsIs : z .plan .records ≡ records
 
 abbrev pub FixAsked : List ℕ → List ℕ → List ℕ → List ℕ → List ℕ → List ℕ → ℕ → Type 0
 FixAsked b w x table ss cs n = (z : Standing b w x table cs) × Tabled z ss n

@@ -28,3 +28,8 @@ module _ {b w x table cs : List ℕ} (z : Standing b w x table cs) where
   -- the pool with its plan
   abbrev pub plannedIn : Planned
   plannedIn = planned (tabled tables) (mapped b (tabled tables))
+
+-- the records are counted, and their sections stand in a table
+pub record Tabled {b w x table cs : List ℕ} (z : Standing b w x table cs) (ss : List ℕ) (records : ℕ) : Type 0 where
+  pub sectionsIs : z .sections ≡ ss
+  pub recordsIs : z .plan .records ≡ records

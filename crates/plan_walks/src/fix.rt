@@ -1,4 +1,5 @@
 // `fix_prover_code` by a plan: the segment's three lists, for the domain "n" or "2ns".
+use crate::cms::fill_cms;
 use crate::walk::DOMAIN_N;
 use crate::walk::Walk;
 use crate::walk::is_segment;
@@ -8,31 +9,13 @@ use frames::count::EXPRESSION_LIMIT;
 use frames::tables::NODE_WORDS;
 use map_records::rest::CM_LIMIT;
 use plan_tables::columns::column_expressions;
-use plan_tables::numbers::record_numbers;
 use plan_tables::rules::fill_rules;
 use planning::answer::Planning;
 use planning::frames_plan::plan_frames;
 use plans::count::NUMBER_LIMIT;
 use plans::layout::q2exp_count;
 use sections::map_section::RECORD_LIMIT;
-use sections::section::Section;
-ghost use Rattle.plan_walks.specs.Fix.{CmsAsked, CmsGiven, RulesGiven, PlannedAsked, FixAsked, FixGiven, FixIs};
-
-// The record of each cm number in a domain; answers how many.
-fn fill_cms(
-    in_n: bool,
-    sections: &[u16; RECORD_LIMIT],
-    records: usize,
-    cms: &mut [u16; RECORD_LIMIT],
-) -> usize
-    requires { ⌜ CmsAsked (now sections) records ⌝ }
-    ensures { λ r. ⌜ CmsGiven «in_n» (now (sections .entry)) records (now (cms .entry)) (now (cms .exit)) r ⌝ }
-{
-    if in_n {
-        return record_numbers(sections, records, Section::CM1_N, Section::CM4_N, cms);
-    }
-    record_numbers(sections, records, Section::CM1_2NS, Section::CM4_2NS, cms)
-}
+ghost use Rattle.plan_walks.specs.Fix.{RulesGiven, PlannedAsked, FixAsked, FixGiven, FixIs};
 
 fn fill_plan_rules(
     in_n: bool,

@@ -2,13 +2,13 @@
 -- Assumes nothing.
 use Prim.Native.Nat.{ℕ, zero, suc, _+_, _<_, max}
 use mathlib.Core.Path.{_≡_, refl, sym, _∙_, ap, ap₂}
-use mathlib.Core.Option.{Option, none, some, Option·none-ne-some, Option·some-injective}
-use mathlib.Core.List.{List, [], _∷_, _++_}
+use mathlib.Core.Option.{Option, some}
+use mathlib.Core.List.{_++_}
 use native.Mathlib.Omega.{arith}
 use lib.ListN.{length}
 use Rattle.meaning.specs.Trees.{RowKind, FlatKind, XKind, Op, Leaf, Expr, Expression, Forest, nth, Placed, _at_, leaves, Each, Falls, Acyclic}
 use Rattle.meaning.specs.Laws.Tests.{each-left, each-right, each-map}
-use Rattle.search_meaning.specs.Degrees.{Class, classOf, map₂, sumDegree, fullLeaf, full, fullIn, fullOf, fullTable}
+use Rattle.search_meaning.specs.Degrees.{classOf, map₂, sumDegree, fullLeaf, full, fullOf, fullTable}
 
 -- f and g agree on the expression that a leaf leads to
 abbrev pub Agree : (ℕ → Option ℕ) → (ℕ → Option ℕ) → Placed → Type 0

@@ -247,6 +247,11 @@ abbrev pub foldMore : ℕ → Expr → List ℕ → Expr
 foldMore vc c [] = c
 foldMore vc c (e ∷ es) = foldMore vc (folded vc c (identityLeaf e)) es
 
+-- the tree of the identities
+abbrev pub folds : ℕ → List ℕ → Expr
+folds vc [] = identityLeaf 0
+folds vc (e ∷ es) = foldMore vc (identityLeaf e) es
+
 abbrev pub allBelow : ℕ → List ℕ → Bool
 allBelow n [] = true
 allBelow n (e ∷ es) = cond (ltb e n) (allBelow n es) false

@@ -2,11 +2,11 @@
 -- Assumes nothing.
 use Prim.Native.Nat.{ℕ, _+_}
 use mathlib.Core.Path.{_≡_, refl}
-use mathlib.Core.Bool.{Bool, true, false}
+use mathlib.Core.Bool.{false}
 use mathlib.Core.Option.{none, some}
 use mathlib.Core.List.{List, [], _∷_}
 use Rattle.meaning.specs.Refusals.{Refusal, Answer}
-use Rattle.meaning.specs.Trees.{lit, RowKind, FlatKind, XKind, Op, OpC, Leaf, Expr, Expression, Forest, Each}
+use Rattle.meaning.specs.Trees.{lit, RowKind, FlatKind, XKind, Op, OpC, Leaf, Expr, Forest, Each}
 use Rattle.search_meaning.specs.Degrees.{fullTable}
 use Rattle.search_meaning.specs.Search.{Choice, search}
 

@@ -1,9 +1,9 @@
+-- `plan_walks::cms::fill_cms` meets its contract (proofs/Fixes.antt). Assumes nothing.
 use lib.ListN.{take}
--- `plan_walks::fix::fill_cms` meets its contract (proofs/Fixes.antt). Assumes nothing.
 use Rattle.plan_walks.proofs.Fixes.{cms-in-n, cms-in-2ns}
 use borrow.Author.Needs.{needs}
-use Rattle.plan_walks.proofs.fix.fill_cms.Statement.{statement}
-use Rattle.plan_walks.proofs.fix.fill_cms.Tie as tie
+use Rattle.plan_walks.proofs.cms.fill_cms.Statement.{statement}
+use Rattle.plan_walks.proofs.cms.fill_cms.Tie as tie
 
 record-numbers-requires : tie.Need-record-numbers-requires
 record-numbers-requires c κs = (c .before .before .pre .size, c .before .before .pre .few)

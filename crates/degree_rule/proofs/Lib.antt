@@ -1,0 +1,5 @@
+pub mod Counts
+pub mod Readings
+pub mod Rules
+pub mod Visits
+pub mod Splits

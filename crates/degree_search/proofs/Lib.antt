@@ -1,0 +1,4 @@
+pub mod Folds
+pub mod Keeping
+pub mod Choices
+pub mod Questions

@@ -1,0 +1,84 @@
+-- `plan_walks::dimension::dimension` meets its contract: no plan, or dimensions by it (proofs/Entries.antt). Assumes nothing.
+use mathlib.Core.Path.{refl}
+use mathlib.Core.List.{[], _∷_}
+use native.Mathlib.Omega.{arith}
+use lib.ListN.{length-take}
+use Rattle.dimensions.specs.Answers.{firstDimX}
+use Rattle.plan_walks.specs.Dimension.{dimensionBy}
+use Rattle.plan_walks.proofs.Entries.{unplanned-walk, standing, in-tables, dims-in, dims-fit, planned-walk, own-is}
+use borrow.Author.Needs.{needs}
+use Rattle.plan_walks.proofs.dimension.dimension.Statement.{statement}
+use Rattle.plan_walks.proofs.dimension.dimension.Tie as tie
+
+good-lists-requires : tie.Need-good-lists-requires
+good-lists-requires c κs = search needs
+
+slice-aggregate-plan-frames : tie.Need-slice-aggregate-plan-frames
+slice-aggregate-plan-frames c = search needs
+
+slice-aggregate-plan-frames-2 : tie.Need-slice-aggregate-plan-frames-2
+slice-aggregate-plan-frames-2 c = search needs
+
+plan-frames-requires : tie.Need-plan-frames-requires
+plan-frames-requires c κs = record { nodes = refl; expressions = refl; tableSize = refl; blank = record { sections = refl; dims = refl; cmDims = refl } }
+
+enum-known-u : tie.Need-enum-known-u
+enum-known-u c = search needs
+
+enum-known-k : tie.Need-enum-known-k
+enum-known-k c = search needs
+
+array-share-prefix-dims : tie.Need-array-share-prefix-dims
+array-share-prefix-dims c = dims-fit (c .before .before .before .before .before .before .plan-frames .ensures) (c .before .before .k .given .1) (c .before .before .before .before .before .table2 .given)
+
+slice-aggregate-dimension-planned : tie.Need-slice-aggregate-dimension-planned
+slice-aggregate-dimension-planned c = simp length-take (omega (arith, dims-fit (c .before .before .before .before .before .before .before .plan-frames .ensures) (c .before .before .before .k .given .1) (c .before .before .before .before .before .before .table2 .given)))
+
+dimension-planned-requires : tie.Need-dimension-planned-requires
+dimension-planned-requires c κs = (_, _, _, _, standing (c .before .before .before .before .before .before .before .before .before .before .plan-frames .ensures) (c .before .before .before .before .before .before .k .given .1) (c .before .before .before .before .before .before .before .before .before .table2 .given), in-tables (c .before .before .before .before .before .before .before .before .before .before .plan-frames .ensures) (c .before .before .before .before .before .before .k .given .1) (c .before .before .before .before .before .before .before .before .before .table2 .given), dims-in (c .before .before .before .before .before .before .before .before .before .before .plan-frames .ensures) (c .before .before .before .before .before .before .k .given .1) (c .before .before .before .before .before .before .before .before .before .table2 .given))
+
+same-length : tie.Need-same-length
+same-length c = search needs
+
+same-length-2 : tie.Need-same-length-2
+same-length-2 c = search needs
+
+same-length-3 : tie.Need-same-length-3
+same-length-3 c = search needs
+
+returns : tie.Need-returns
+returns c = own-is (c .before .before .before .before .before .before .before .before .before .before .before .before .good-lists .ensures) (unplanned-walk (c .before .before .before .before .before .plan-frames .ensures) (dimensionBy (c .before .before .before .before .before .before .before .before .before .before .before .before .before .before .before .before .before .before .before .before .before .args .dim-x) ((c .before .before .before .before .before .before .before .before .before .before .before .before .before .before .before .before .before .before .before .before .before .args .first .now) ∷ (c .before .before .before .before .before .before .before .before .before .before .before .before .before .before .before .before .before .before .before .before .before .args .i .now) ∷ (c .before .before .before .before .before .before .before .before .before .before .before .before .before .before .before .before .before .before .before .before .before .args .last .now) ∷ []) (c .before .before .before .before .before .before .before .before .before .before .before .before .before .before .before .before .before .before .before .before .before .args .plan .now)) _ (c .before .u .given .1))
+
+same-length-4 : tie.Need-same-length-4
+same-length-4 c = search needs
+
+same-length-5 : tie.Need-same-length-5
+same-length-5 c = search needs
+
+same-length-6 : tie.Need-same-length-6
+same-length-6 c = search needs
+
+returns-2 : tie.Need-returns-2
+returns-2 c = own-is (c .before .before .before .before .before .before .before .before .before .before .before .before .before .before .before .before .before .before .before .before .before .before .before .before .good-lists .ensures) (planned-walk (c .before .before .before .before .before .before .before .before .before .before .before .before .before .before .before .before .before .plan-frames .ensures) (c .before .before .before .before .before .before .before .before .before .before .before .before .before .k .given .1) (c .before .before .before .before .before .before .before .before .before .before .before .before .before .before .before .before .table2 .given) (dimensionBy (c .before .before .before .before .before .before .before .before .before .before .before .before .before .before .before .before .before .before .before .before .before .before .before .before .before .before .before .before .before .before .before .before .before .args .dim-x) ((c .before .before .before .before .before .before .before .before .before .before .before .before .before .before .before .before .before .before .before .before .before .before .before .before .before .before .before .before .before .before .before .before .before .args .first .now) ∷ (c .before .before .before .before .before .before .before .before .before .before .before .before .before .before .before .before .before .before .before .before .before .before .before .before .before .before .before .before .before .before .before .before .before .args .i .now) ∷ (c .before .before .before .before .before .before .before .before .before .before .before .before .before .before .before .before .before .before .before .before .before .before .before .before .before .before .before .before .before .before .before .before .before .args .last .now) ∷ []) (c .before .before .before .before .before .before .before .before .before .before .before .before .before .before .before .before .before .before .before .before .before .before .before .before .before .before .before .before .before .before .before .before .before .args .plan .now)) (c .before .before .before .before .before .before .dimension-planned .ensures _ _ _ _ (standing (c .before .before .before .before .before .before .before .before .before .before .before .before .before .before .before .before .before .plan-frames .ensures) (c .before .before .before .before .before .before .before .before .before .before .before .before .before .k .given .1) (c .before .before .before .before .before .before .before .before .before .before .before .before .before .before .before .before .table2 .given)) (in-tables (c .before .before .before .before .before .before .before .before .before .before .before .before .before .before .before .before .before .plan-frames .ensures) (c .before .before .before .before .before .before .before .before .before .before .before .before .before .k .given .1) (c .before .before .before .before .before .before .before .before .before .before .before .before .before .before .before .before .table2 .given)) (dims-in (c .before .before .before .before .before .before .before .before .before .before .before .before .before .before .before .before .before .plan-frames .ensures) (c .before .before .before .before .before .before .before .before .before .before .before .before .before .k .given .1) (c .before .before .before .before .before .before .before .before .before .before .before .before .before .before .before .before .table2 .given))))
+
+pub dimension-spec : {M : Type 1} → statement M
+dimension-spec =
+    tie.close
+    (tie.spec
+    good-lists-requires
+    slice-aggregate-plan-frames
+    slice-aggregate-plan-frames-2
+    plan-frames-requires
+    enum-known-u
+    enum-known-k
+    array-share-prefix-dims
+    slice-aggregate-dimension-planned
+    dimension-planned-requires
+    same-length
+    same-length-2
+    same-length-3
+    returns
+    same-length-4
+    same-length-5
+    same-length-6
+    returns-2)
