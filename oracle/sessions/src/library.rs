@@ -50,6 +50,16 @@ extern "C" {
         cells: *mut [usize; 1],
     ) -> u8;
 
+    fn enonkasse_map(
+        frames: *const u8,
+        frames_size: usize,
+        plan: *const u8,
+        plan_size: usize,
+        out: *mut u8,
+        out_size: usize,
+        size: *mut [usize; 1],
+    ) -> u8;
+
     fn enonkasse_fix(
         frames: *const u8,
         frames_size: usize,
@@ -184,6 +194,21 @@ pub fn evaluate(
             out.as_mut_ptr(),
             out.len(),
             cells,
+        )
+    }
+}
+
+pub fn map(frames: &[u8], plan: &[u8], out: &mut [u8], size: &mut [usize; 1]) -> u8 {
+    // Safety: as above.
+    unsafe {
+        enonkasse_map(
+            frames.as_ptr(),
+            frames.len(),
+            plan.as_ptr(),
+            plan.len(),
+            out.as_mut_ptr(),
+            out.len(),
+            size,
         )
     }
 }

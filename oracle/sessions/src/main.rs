@@ -4,6 +4,7 @@
 mod edges;
 mod evaluation;
 mod library;
+mod maps;
 #[cfg(test)]
 mod plan_edges;
 mod planned;
@@ -32,9 +33,9 @@ use std::thread;
 const HELP: &str = "\
 sessions SEED COUNT             compares the exported functions with the original on COUNT random sessions
 sessions evaluate SEED COUNT    evaluates COUNT first lists and compares the cells with the trees
-sessions plans SEED COUNT       compares the walks over lists by COUNT random plans with the original
+sessions plans SEED COUNT       compares COUNT random plans and the walks over lists by them with the original
 sessions searches SEED COUNT    compares COUNT random degree searches with the original
-sessions stack                  prints how much stack the walks and the search need on the deepest pools
+sessions stack                  prints how much stack plans, walks and searches need on the deepest pools
 
 A session is a pool with requests, some asking for results, and builds, from a fresh context. A
 refused call must leave all that was lent as it was; the original is put back to before it, and
@@ -44,8 +45,8 @@ A list that is evaluated is the first one of a session, asked for no result and 
 build; it is compared with the original's too. Its cells are compared with the values of the
 expressions, computed here on the pool's trees, at random rows modulo each of six numbers.
 
-A plan is asked for each walk, over lists as generation makes them and over any; before each call the
-same one is made with one thing wrong in what is lent. A search is also asked with limits of one visit
+A plan is asked for, and each walk by it, over lists as generation makes them and over any; before each
+call the same one is made with one thing wrong in what is lent. A search is also asked with limits of one visit
 less than it needs, as many and one more. Every fourth or fifth pool has its expressions spread among
 up to 512, and such a plan up to 4,096 records. A table shows how often each answer came.
 

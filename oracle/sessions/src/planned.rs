@@ -2,6 +2,7 @@
 //! what stands after each of them.
 
 use crate::library;
+use crate::maps;
 use crate::record::{framed, u16_at, REFERENCE, STEP};
 use crate::spoiled::Fault;
 use crate::spread;
@@ -43,12 +44,25 @@ pub struct Port {
 }
 
 impl Port {
-    /// To a walk; the others are not exported.
+    /// To `map` and to a walk; the others are not exported.
     pub fn say(&self, question: &Question) -> Said {
         match question {
+            Question::Map(input) => self.map(input).map(Some),
             Question::Walk(input, walk, segment) => self.walk(input, *walk, segment).map(Some),
-            Question::Map(_) | Question::ExpDims(_) | Question::Sections(_) => Ok(None),
+            Question::ExpDims(_) | Question::Sections(_) => Ok(None),
         }
+    }
+
+    fn map(&self, input: &Input) -> Result<Answer, String> {
+        let lent = Sent::new(input, &Segment::default()).lent;
+        for fault in Fault::OF_READING {
+            let mut lent = lent.clone();
+            fault.put_in(Stage::Query, &mut lent);
+            let expected = fault.number(input, &lent.plan);
+            let number = maps::number(&lent.frames, &lent.plan)?;
+            self.count_fault("map", fault, number, expected)?;
+        }
+        maps::answer(&lent.frames, &lent.plan, input.pool.expressions.len())
     }
 
     fn walk(&self, input: &Input, walk: Walk, segment: &Segment) -> Result<Answer, String> {
@@ -73,11 +87,21 @@ impl Port {
         let stage = fault.put_in(stage, &mut lent);
         let before = lent.clone();
         let (expected, number) = (fault.number(input, &lent.plan), stage.call(&mut lent));
+        lent.unchanged(&before, number)?;
+        self.count_fault(stage.name(), fault, number, expected)
+    }
+
+    fn count_fault(
+        &self,
+        name: &str,
+        fault: Fault,
+        number: u8,
+        expected: u8,
+    ) -> Result<(), String> {
         if number != expected {
             return Err(format!("with {:?}: the answer is {}, not {}\n", fault, number, expected));
         }
-        lent.unchanged(&before, number)?;
-        let name = format!("{}, {:?}", stage.name(), fault);
+        let name = format!("{}, {:?}", name, fault);
         *self.faults.lock().expect("a tally").entry(name).or_default() += 1;
         Ok(())
     }

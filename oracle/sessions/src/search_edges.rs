@@ -156,5 +156,5 @@ fn the_stored_vectors_are_answered() {
             asked += 1;
         }
     }
-    assert!(asked > 100, "{} vectors", asked);
+    assert!(asked > 300, "{} vectors", asked);
 }

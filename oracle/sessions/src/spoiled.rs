@@ -26,8 +26,6 @@ pub enum Fault {
 
 const OF_STEPS: [Fault; 4] = [Fault::CutList, Fault::Kind, Fault::Prime, Fault::SourceCount];
 const OF_FIX: [Fault; 2] = [Fault::Domain, Fault::Counter];
-const OF_ANY: [Fault; 5] =
-    [Fault::LongList, Fault::ShortPlan, Fault::LongPlan, Fault::ShortFrames, Fault::GarbageFrames];
 
 const NO_KINDS: [u8; 6] = [0, 1, 7, 0x1b, 0x29, u8::MAX];
 const NO_DOMAINS: [u8; 2] = [2, u8::MAX];
@@ -47,9 +45,14 @@ fn list_with_a_step(stage: Stage, lent: &Lent) -> Option<usize> {
 }
 
 impl Fault {
+    /// Those of frames and plan.
+    pub const OF_READING: [Fault; 4] =
+        [Fault::ShortPlan, Fault::LongPlan, Fault::ShortFrames, Fault::GarbageFrames];
+
     /// One that can be put into this call.
     pub fn of(stage: Stage, lent: &Lent) -> Fault {
-        let mut faults = OF_ANY.to_vec();
+        let mut faults = Fault::OF_READING.to_vec();
+        faults.push(Fault::LongList);
         if let Stage::Fix(_) = stage {
             faults.extend(OF_FIX);
         }

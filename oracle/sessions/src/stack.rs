@@ -86,6 +86,11 @@ fn calls(pool: &Pool) -> Vec<(&'static str, Call<'_>)> {
         let lent = lent.clone();
         calls.push((stage.name(), Box::new(move || stage.call(&mut lent.clone()))));
     }
+    let map = move || {
+        let (mut out, mut size) = (vec![0; 1 << 17], [0]);
+        library::map(&lent.frames, &lent.plan, &mut out, &mut size)
+    };
+    calls.push(("map", Box::new(map)));
     let frames = pool_frames(pool);
     let last = pool.expressions().len() as u64 - 1;
     for more in [0, 4] {
