@@ -4,10 +4,9 @@
 use Prim.Native.Nat.{ℕ, _<_, _≤_}
 use mathlib.Core.Path.{_≡_, sym, _∙_, ap}
 use mathlib.Core.Bool.{Bool}
-use mathlib.Core.Option.{some}
 use mathlib.Core.List.{List}
 use lib.ListN.{length}
-use Rattle.meaning.specs.Trees.{RowKind, Leaf, Expression, Forest, nth, Placed, _at_, leaves, Each}
+use Rattle.meaning.specs.Trees.{RowKind, Leaf, Forest, Placed, _at_, leaves}
 use Rattle.meaning.specs.Demand3.{Throughout}
 use Rattle.meaning.specs.Laws.Tests.{each-map}
 use Rattle.frames.specs.Order.{expressionLimit}
@@ -16,7 +15,6 @@ use Rattle.pool.specs.Pool.{Pool}
 use Rattle.plans.specs.Plan.{imCount, imOf, imCm}
 use Rattle.plans.specs.Columns.{recordLimit, recordCount}
 use Rattle.map_records.specs.Mapping.{mapped}
-use Rattle.plan_tables.specs.Gathered.{columnsOf}
 use Rattle.fixed_meaning.specs.Fixing.{Plan}
 use Rattle.fixed_meaning.specs.Demand3Fixed.{ColumnsDiffer, NoIntermediateRead}
 use Rattle.fixing.specs.ProverCode.{planOf}
@@ -50,9 +48,9 @@ module _ (inN : Bool) (b : List ℕ) (p : Pool) (few : length (p .expressions) �
       record {
         ims =
             λ e e′ c h h′.
-              let x = im-of inN b p few bytes fit e c h in
-              let y = im-of inN b p few bytes fit e′ c h′ in
-              sym (x .2) ∙ ap (imOf b) (differ (x .0) (y .0) (x .1) (y .1) (x .3 ∙ sym (y .3))) ∙ y .2;
+            let x = im-of inN b p few bytes fit e c h in
+            let y = im-of inN b p few bytes fit e′ c h′ in
+            sym (x .2) ∙ ap (imOf b) (differ (x .0) (y .0) (x .1) (y .1) (x .3 ∙ sym (y .3))) ∙ y .2;
         columns = λ e e′ k h h′. sym (column-of inN b p few bytes fit e k h .1) ∙ column-of inN b p few bytes fit e′ k h′ .1;
       }
 

@@ -3,3 +3,5 @@ pub mod Low
 pub mod Words
 pub mod Rules
 pub mod Conditions
+pub mod Done
+pub mod Demand3Plan

@@ -6,12 +6,11 @@ use mathlib.Core.Bool.{Bool, true, false, cond}
 use mathlib.Core.Option.{some}
 use mathlib.Core.List.{List, [], _∷_}
 use native.Mathlib.Omega.{arith}
-use lib.ListN.{length, getD, replicate, List·getD-eq-default}
+use lib.ListN.{length, getD, List·getD-eq-default}
 use lib.Dec.{eqb, ltb}
 use borrow.Author.Tests.{eqb-true, ltb-true, ltb-false}
 use Rattle.kinds.specs.KindBytes as kind
 use Rattle.kinds.specs.BigEndian.{u16At}
-use Rattle.kinds.specs.Write.{write}
 use Rattle.frames.specs.Order.{expressionLimit}
 use Rattle.frames.specs.Taking.{Bytes}
 use Rattle.pool.specs.Pool.{Pool}
@@ -25,7 +24,7 @@ use Rattle.plan_tables.specs.Gathered.{columnsOf}
 use Rattle.plan_tables.specs.Sizes.{mapped-columns}
 use Rattle.plan_tables.specs.Whole.{padded-at}
 use Rattle.fixing.specs.ProverCode.{ruleFor, ruleKind, ruleId, idWhere, planOf}
-use Rattle.planning.specs.Planning.{Planned, planned}
+use Rattle.planning.specs.Planning.{planned}
 use Rattle.plan_walks.specs.Fix.{rulesIn}
 use Rattle.plan_demand3.specs.Low.{dim-low, mapped-low}
 use Rattle.plan_demand3.specs.Words.{kind-packed, id-packed, kind-none, where-some}
