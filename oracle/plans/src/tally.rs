@@ -17,11 +17,15 @@ pub struct Labelled {
     pub question: Question,
 }
 
-/// The questions of this seed and index, all on one input but for the sections. Call it on a large
-/// stack.
+/// The questions of this seed and index. Call it on a large stack.
 pub fn questions(seed: u64, index: u64) -> Result<Vec<Labelled>, String> {
     let random = &mut Random::new(seed, index);
     let input = random::input(random);
+    questions_on(random, input)
+}
+
+/// Questions that are all on one input, but for the sections.
+pub fn questions_on(random: &mut Random, input: Input) -> Result<Vec<Labelled>, String> {
     let mut questions = vec![
         labelled("map", Question::Map(input.clone())),
         labelled("sections", Question::Sections(random_lists::records(random))),
@@ -96,29 +100,39 @@ impl Tally {
 
 /// Asks the questions of so many indices.
 pub fn tally(seed: u64, count: u64) -> Result<Tally, String> {
-    each(seed, count, |_, _| None).map(|(tally, _)| tally)
+    each(seed, count, questions, |_, _| Ok(true)).map(|(tally, _)| tally)
 }
 
-/// Asks the same of the original and of something else, up to the first difference.
+/// What is compared says to a question: its answer, or none where it is not to be asked; or what else
+/// is wrong with it.
+pub type Said = Result<Option<Answer>, String>;
+
+/// Asks the same of the original and of something else, up to the first difference. What is not asked
+/// is not counted.
 pub fn compare(
     seed: u64,
     count: u64,
-    other: impl Fn(&Question) -> Answer + Sync,
+    questions: impl Fn(u64, u64) -> Result<Vec<Labelled>, String> + Sync,
+    port: impl Fn(&Question) -> Said + Sync,
 ) -> Result<(Tally, Option<String>), String> {
-    each(seed, count, |question, answer| {
-        let given = other(question);
-        if given == *answer {
-            return None;
+    each(seed, count, questions, |question, answer| {
+        let given = port(question).map_err(|text| format!("{}{}", question, text))?;
+        match given {
+            Some(given) if given != *answer => {
+                Err(format!("{}expected is\n{}and given\n{}", question, answer, given))
+            }
+            given => Ok(given.is_some()),
         }
-        Some(format!("{}expected is\n{}and given\n{}", question, answer, given))
     })
 }
 
-/// Shows each question with its answer, up to the first where there is something to tell.
+/// Shows each question with its answer, up to the first where there is something to tell, and counts
+/// those that are to be counted.
 fn each(
     seed: u64,
     count: u64,
-    told: impl Fn(&Question, &Answer) -> Option<String> + Sync,
+    questions: impl Fn(u64, u64) -> Result<Vec<Labelled>, String> + Sync,
+    told: impl Fn(&Question, &Answer) -> Result<bool, String> + Sync,
 ) -> Result<(Tally, Option<String>), String> {
     on_large_stack(|| {
         let mut tally = Tally::default();
@@ -127,10 +141,11 @@ fn each(
             for Labelled { label, question } in questions(seed, index).map_err(place)? {
                 let answer =
                     ask(&question).map_err(|text| place(format!("{}\n{}", text, question)))?;
-                if let Some(text) = told(&question, &answer) {
-                    return Ok((tally, Some(place(text))));
+                match told(&question, &answer) {
+                    Ok(true) => tally.count(&label, &answer),
+                    Ok(false) => {}
+                    Err(text) => return Ok((tally, Some(place(text)))),
                 }
-                tally.count(&label, &answer);
             }
         }
         Ok((tally, None))
@@ -199,7 +214,8 @@ mod tests {
 
     #[test]
     fn the_original_equals_itself() {
-        let (compared, difference) = compare(SEED, 50, original).unwrap();
+        let same = |question: &Question| Ok(Some(original(question)));
+        let (compared, difference) = compare(SEED, 50, questions, same).unwrap();
         assert_eq!(difference, None);
         assert_eq!(Ok(compared), tally(SEED, 50));
     }
@@ -209,9 +225,9 @@ mod tests {
         let changed = |question: &Question| {
             let mut answer = original(question);
             change(&mut answer);
-            answer
+            Ok(Some(answer))
         };
-        compare(SEED, COUNT, changed).unwrap().1.is_some()
+        compare(SEED, COUNT, questions, changed).unwrap().1.is_some()
     }
 
     #[test]
@@ -276,12 +292,12 @@ mod tests {
 
     #[test]
     fn the_domain_is_seen() {
-        let differs = compare(SEED, COUNT, |question| match question {
+        let differs = compare(SEED, COUNT, questions, |question| match question {
             Question::Walk(input, Walk::Fix(Domain::N), segment) => {
                 let other = Walk::Fix(Domain::TwoNs);
-                original(&Question::Walk(input.clone(), other, segment.clone()))
+                Ok(Some(original(&Question::Walk(input.clone(), other, segment.clone()))))
             }
-            _ => original(question),
+            _ => Ok(None),
         });
         assert!(differs.unwrap().1.is_some());
     }

@@ -9,6 +9,19 @@ use std::fmt;
 
 const ACCEPTED: u8 = 0;
 
+/// A question and the row of the table that it is counted in.
+#[derive(Clone, Debug)]
+pub struct Labelled {
+    pub label: &'static str,
+    pub question: Question,
+}
+
+impl Labelled {
+    pub fn new(label: &'static str, question: Question) -> Labelled {
+        Labelled { label, question }
+    }
+}
+
 /// Answers by what was asked: how many were accepted (under 0), and how many refused with each number.
 #[derive(Clone, Debug, Default, PartialEq, Eq)]
 pub struct Tally {
@@ -21,7 +34,7 @@ pub struct Tally {
 }
 
 impl Tally {
-    fn count(&mut self, question: &Question, answer: &Answer) {
+    fn count(&mut self, label: &'static str, answer: &Answer) {
         let number = match answer {
             Answer::Refused(number) => *number,
             Answer::Found(found) => {
@@ -33,7 +46,7 @@ impl Tally {
                 ACCEPTED
             }
         };
-        *self.rows.entry(question.name()).or_default().entry(number).or_default() += 1;
+        *self.rows.entry(label).or_default().entry(number).or_default() += 1;
     }
 
     fn count_found(&mut self, found: &Found) {
@@ -43,62 +56,73 @@ impl Tally {
         self.most_visits = self.most_visits.max(found.visits);
     }
 
-    /// How many questions of this name were refused with a number.
-    pub fn refused(&self, name: &str, number: u8) -> u64 {
-        self.rows.get(name).and_then(|row| row.get(&number)).copied().unwrap_or(0)
+    /// How many questions of a row were refused with a number.
+    pub fn refused(&self, label: &str, number: u8) -> u64 {
+        self.rows.get(label).and_then(|row| row.get(&number)).copied().unwrap_or(0)
     }
 
-    pub fn accepted(&self, name: &str) -> u64 {
-        self.refused(name, ACCEPTED)
+    pub fn accepted(&self, label: &str) -> u64 {
+        self.refused(label, ACCEPTED)
     }
 }
 
 /// The questions of this seed and index: a search, and of every fourth index a constraint.
-pub fn questions(seed: u64, index: u64) -> Vec<Question> {
+pub fn questions(seed: u64, index: u64) -> Vec<Labelled> {
     let mut questions = vec![Question::Search(random::search(seed, index))];
     if index % 4 == 0 {
         questions.push(Question::Constraint(random::constraint(seed, index / 4)));
     }
-    questions
+    questions.into_iter().map(|question| Labelled::new(question.name(), question)).collect()
 }
 
 /// Asks the questions of so many indices.
 pub fn tally(seed: u64, count: u64) -> Result<Tally, String> {
-    each(seed, count, |_, _| None).map(|(tally, _)| tally)
+    each(seed, count, questions, |_, _| Ok(true)).map(|(tally, _)| tally)
 }
 
-/// Asks the same of the original and of something else, up to the first difference. `port` gives no answer
-/// to what it is not asked.
+/// What is compared says to a question: its answer, or none where it is not to be asked; or what else
+/// is wrong with it.
+pub type Said = Result<Option<Answer>, String>;
+
+/// Asks the same of the original and of something else, up to the first difference. What is not asked
+/// is not counted.
 pub fn compare(
     seed: u64,
     count: u64,
-    port: impl Fn(&Question) -> Option<Answer> + Sync,
+    questions: impl Fn(u64, u64) -> Vec<Labelled> + Sync,
+    port: impl Fn(&Question) -> Said + Sync,
 ) -> Result<(Tally, Option<String>), String> {
-    each(seed, count, |question, answer| match port(question) {
-        Some(given) if given != *answer => {
-            Some(format!("{}expected is\n{}and given\n{}", question, answer, given))
+    each(seed, count, questions, |question, answer| {
+        let given = port(question).map_err(|text| format!("{}{}", question, text))?;
+        match given {
+            Some(given) if given != *answer => {
+                Err(format!("{}expected is\n{}and given\n{}", question, answer, given))
+            }
+            given => Ok(given.is_some()),
         }
-        _ => None,
     })
 }
 
-/// Shows each question with its answer, up to the first where there is something to tell.
+/// Shows each question with its answer, up to the first where there is something to tell, and counts
+/// those that are to be counted.
 fn each(
     seed: u64,
     count: u64,
-    told: impl Fn(&Question, &Answer) -> Option<String> + Sync,
+    questions: impl Fn(u64, u64) -> Vec<Labelled> + Sync,
+    told: impl Fn(&Question, &Answer) -> Result<bool, String> + Sync,
 ) -> Result<(Tally, Option<String>), String> {
     on_large_stack(|| {
         let mut tally = Tally::default();
         for index in 0..count {
             let place = |text: String| format!("input {} of seed {}: {}", index, seed, text);
-            for question in questions(seed, index) {
+            for Labelled { label, question } in questions(seed, index) {
                 let answer =
                     ask(&question).map_err(|text| place(format!("{}\n{}", text, question)))?;
-                if let Some(text) = told(&question, &answer) {
-                    return Ok((tally, Some(place(text))));
+                match told(&question, &answer) {
+                    Ok(true) => tally.count(label, &answer),
+                    Ok(false) => {}
+                    Err(text) => return Ok((tally, Some(place(text)))),
                 }
-                tally.count(&question, &answer);
             }
         }
         Ok((tally, None))
@@ -110,14 +134,14 @@ impl fmt::Display for Tally {
         let numbers: BTreeSet<u8> =
             self.rows.values().flat_map(|row| row.keys().copied()).collect();
         let numbers: Vec<u8> = numbers.into_iter().filter(|&number| number != ACCEPTED).collect();
-        write!(f, "| {:<12} | {:>8} | {:>8} |", "Asked", "Runs", "Accepted")?;
+        write!(f, "| {:<24} | {:>8} | {:>8} |", "Asked", "Runs", "Accepted")?;
         numbers.iter().try_for_each(|number| write!(f, " {:>6} |", number))?;
         writeln!(f, "\n|---|---|---|{}", "---|".repeat(numbers.len()))?;
-        for (name, row) in &self.rows {
+        for (label, row) in &self.rows {
             let runs: u64 = row.values().sum();
-            write!(f, "| {:<12} | {:>8} | {:>8} |", name, runs, self.accepted(name))?;
+            write!(f, "| {:<24} | {:>8} | {:>8} |", label, runs, self.accepted(label))?;
             for &number in &numbers {
-                write!(f, " {:>6} |", self.refused(name, number))?;
+                write!(f, " {:>6} |", self.refused(label, number))?;
             }
             writeln!(f)?;
         }
@@ -153,13 +177,13 @@ mod tests {
         assert!((0..4).all(|members| tally.members.contains_key(&members)), "{}", tally);
     }
 
-    fn original(question: &Question) -> Option<Answer> {
-        Some(ask(question).expect("an answer"))
+    fn original(question: &Question) -> Said {
+        ask(question).map(Some)
     }
 
     #[test]
     fn the_original_equals_itself() {
-        let (compared, difference) = compare(SEED, 50, original).unwrap();
+        let (compared, difference) = compare(SEED, 50, questions, original).unwrap();
         assert_eq!(difference, None);
         assert_eq!(Ok(compared), tally(SEED, 50));
     }
@@ -167,11 +191,11 @@ mod tests {
     /// Whether a comparison finds the original, changed in what it answers.
     fn finds(change: impl Fn(&mut Answer) + Sync) -> bool {
         let changed = |question: &Question| {
-            let mut answer = original(question);
+            let mut answer = original(question)?;
             answer.iter_mut().for_each(&change);
-            answer
+            Ok(answer)
         };
-        compare(SEED, COUNT, changed).unwrap().1.is_some()
+        compare(SEED, COUNT, questions, changed).unwrap().1.is_some()
     }
 
     #[test]
@@ -210,7 +234,7 @@ mod tests {
             let limit = question.search().limit;
             original(&question.limited(limit.saturating_add(1)))
         };
-        assert!(compare(SEED, COUNT, wrong).unwrap().1.is_some());
+        assert!(compare(SEED, COUNT, questions, wrong).unwrap().1.is_some());
         assert!(finds(|answer| {
             if *answer == Answer::Refused(NO_SET) {
                 *answer = Answer::Found(Found { set: Vec::new(), q: 0, visits: 14 });
@@ -222,7 +246,7 @@ mod tests {
     fn questions_depend_on_seed_and_index_only() {
         let text = |seed, index| -> String {
             let asked = on_large_stack(|| Ok(questions(seed, index))).unwrap();
-            asked.iter().map(Question::to_string).collect()
+            asked.iter().map(|labelled| labelled.question.to_string()).collect()
         };
         assert_eq!(text(7, 4), text(7, 4));
         assert_ne!(text(7, 3), text(7, 4));

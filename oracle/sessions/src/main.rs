@@ -4,10 +4,19 @@
 mod edges;
 mod evaluation;
 mod library;
+#[cfg(test)]
+mod plan_edges;
+mod planned;
 mod record;
 #[cfg(test)]
 mod refusals;
+#[cfg(test)]
+mod search_edges;
+mod searched;
 mod session;
+mod spoiled;
+mod spread;
+mod stack;
 
 use judge::pool::MAX_NODES;
 use judge::random;
@@ -23,6 +32,9 @@ use std::thread;
 const HELP: &str = "\
 sessions SEED COUNT             compares the exported functions with the original on COUNT random sessions
 sessions evaluate SEED COUNT    evaluates COUNT first lists and compares the cells with the trees
+sessions plans SEED COUNT       compares the walks over lists by COUNT random plans with the original
+sessions searches SEED COUNT    compares COUNT random degree searches with the original
+sessions stack                  prints how much stack the walks and the search need on the deepest pools
 
 A session is a pool with requests, some asking for results, and builds, from a fresh context. A
 refused call must leave all that was lent as it was; the original is put back to before it, and
@@ -31,6 +43,11 @@ both go on. At the first difference it stops, and prints as small a script as it
 A list that is evaluated is the first one of a session, asked for no result and up to its first
 build; it is compared with the original's too. Its cells are compared with the values of the
 expressions, computed here on the pool's trees, at random rows modulo each of six numbers.
+
+A plan is asked for each walk, over lists as generation makes them and over any; before each call the
+same one is made with one thing wrong in what is lent. A search is also asked with limits of one visit
+less than it needs, as many and one more. Every fourth or fifth pool has its expressions spread among
+up to 512, and such a plan up to 4,096 records. A table shows how often each answer came.
 
 Exit status: 0; 1 if something differs; 2 if something could not be read or answered.
 ";
@@ -45,19 +62,56 @@ const HUNDREDS: usize = 300;
 
 fn main() -> ExitCode {
     let words: Vec<String> = env::args().skip(1).collect();
-    let (mode, words) = match words.split_first() {
-        Some((word, rest)) if word == "evaluate" => (Mode::Lists, rest),
-        _ => (Mode::Sessions, &words[..]),
+    let words: Vec<&str> = words.iter().map(String::as_str).collect();
+    if words == ["stack"] {
+        stack::print();
+        return ExitCode::SUCCESS;
+    }
+    let (compare, seed, count): (fn(u64, u64) -> Result<ExitCode, String>, _, _) = match words[..] {
+        ["plans", seed, count] => (compare_plans, seed, count),
+        ["searches", seed, count] => (compare_searches, seed, count),
+        ["evaluate", seed, count] => (|seed, count| run(Mode::Lists, seed, count), seed, count),
+        [seed, count] => (|seed, count| run(Mode::Sessions, seed, count), seed, count),
+        _ => return fail(HELP),
     };
-    let numbers: Option<Vec<u64>> = words.iter().map(|word| word.parse().ok()).collect();
-    match numbers.as_deref() {
-        Some(&[seed, count]) => run(mode, seed, count).unwrap_or_else(|text| {
-            eprintln!("sessions: {}", text);
-            ExitCode::from(FAILED)
-        }),
-        _ => {
-            eprint!("{}", HELP);
-            ExitCode::from(FAILED)
+    match (seed.parse(), count.parse()) {
+        (Ok(seed), Ok(count)) => {
+            compare(seed, count).unwrap_or_else(|text| fail(&format!("sessions: {}\n", text)))
+        }
+        _ => fail(HELP),
+    }
+}
+
+fn fail(text: &str) -> ExitCode {
+    eprint!("{}", text);
+    ExitCode::from(FAILED)
+}
+
+fn compare_plans(seed: u64, count: u64) -> Result<ExitCode, String> {
+    let port = planned::Port::default();
+    let say = |question: &plans::question::Question| port.say(question);
+    let (tally, difference) = plans::tally::compare(seed, count, planned::questions, say)?;
+    println!("{}", tally);
+    println!("Calls with one thing wrong, each refused:");
+    for (fault, count) in port.faults.lock().expect("a tally").iter() {
+        println!("{:>8}  {}", count, fault);
+    }
+    Ok(verdict(difference))
+}
+
+fn compare_searches(seed: u64, count: u64) -> Result<ExitCode, String> {
+    let questions = searched::questions;
+    let (tally, difference) = searches::tally::compare(seed, count, questions, searched::say)?;
+    println!("{}", tally);
+    Ok(verdict(difference))
+}
+
+fn verdict(difference: Option<String>) -> ExitCode {
+    match difference {
+        None => ExitCode::SUCCESS,
+        Some(text) => {
+            eprintln!("{}", text);
+            ExitCode::from(DIFFERENT)
         }
     }
 }

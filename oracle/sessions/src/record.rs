@@ -3,13 +3,13 @@
 use judge::answer::{Block, State};
 use judge::kinds::Kind;
 use judge::literal::Literal;
-use judge::pool::{Pool, MAX_EXPRESSIONS};
+use judge::pool::{Expression, Node, Pool, MAX_EXPRESSIONS};
 
 /// Bytes of a step in a list: step, source count, origin (2), destination and three sources.
 pub const STEP: usize = 4 + 4 * REFERENCE;
 
 /// Kind, prime, id (2), dimension (2), p (2), tree position (2), extra (2).
-const REFERENCE: usize = 12;
+pub const REFERENCE: usize = 12;
 
 /// Places in a context.
 const HEAD: [u8; 4] = [0, 0, 2, 0];
@@ -21,7 +21,23 @@ const ROWS: usize = 2;
 const TABLE_AT: usize = MARKS_AT + ROWS * MAX_EXPRESSIONS;
 const ENTRY: usize = 6;
 
-fn u16_at(bytes: &[u8], at: usize) -> usize {
+/// Frames as they are lent, each behind its length.
+pub fn framed(frames: impl IntoIterator<Item = Vec<u8>>) -> Vec<u8> {
+    let mut bytes = Vec::new();
+    for frame in frames {
+        bytes.extend((frame.len() as u16).to_be_bytes());
+        bytes.extend(frame);
+    }
+    bytes
+}
+
+/// The frames of a pool.
+pub fn pool_frames(pool: &Pool) -> Vec<u8> {
+    let nodes = pool.nodes().iter().map(Node::frame);
+    framed(nodes.chain(pool.expressions().iter().map(Expression::frame)))
+}
+
+pub fn u16_at(bytes: &[u8], at: usize) -> usize {
     usize::from(u16::from_be_bytes([bytes[at], bytes[at + 1]]))
 }
 

@@ -3,7 +3,7 @@
 
 use crate::evaluation::{self, Evaluated};
 use crate::library;
-use crate::record::{encoded, said, STEP};
+use crate::record::{encoded, framed, pool_frames, said, STEP};
 use judge::answer::{Answer, StepBytes};
 use judge::kinds::Step;
 use judge::pool::Pool;
@@ -153,9 +153,7 @@ impl<'a> Session<'a> {
         if library::fresh(&mut ours.context) != 0 {
             return differs("a fresh context is refused".to_string());
         }
-        let mut frames = Vec::new();
-        pool.nodes().iter().for_each(|node| push_frame(&mut frames, node.frame()));
-        pool.expressions().iter().for_each(|e| push_frame(&mut frames, e.frame()));
+        let frames = pool_frames(pool);
         let (before, original) = (ours.clone(), Original::new(pool));
         let (served, tally) = (Vec::new(), Tally::default());
         Ok(Session { pool, frames, setting, original, ours, before, served, tally })
@@ -179,7 +177,7 @@ impl<'a> Session<'a> {
             expected = FULL;
         }
         let mut frames = self.frames.clone();
-        requests.iter().for_each(|request| push_frame(&mut frames, request.frame()));
+        frames.extend(framed(requests.iter().map(Request::frame)));
         let (kind, id) = asked.map_or((0, 0), |asked| (asked.kind.byte(), asked.id));
         let Lent { context, list } = &mut self.ours;
         let number = library::serve(&frames, kind, id, context, list);
@@ -294,12 +292,6 @@ fn compare_list(
         return differs(format!("{}: what follows the last step has changed", name));
     }
     Ok(())
-}
-
-/// A frame behind its length.
-fn push_frame(bytes: &mut Vec<u8>, frame: Vec<u8>) {
-    bytes.extend((frame.len() as u16).to_be_bytes());
-    bytes.extend(frame);
 }
 
 impl Tally {

@@ -1,0 +1,160 @@
+//! Bad input to the degree search, and its limits: each gets its number, and nothing lent has changed; and
+//! the stored vectors.
+
+use crate::library::{self, SET_WORDS};
+use crate::record::pool_frames;
+use crate::searched::say;
+use judge::case::{add, cm, exp, mul, Case, Tree};
+use judge::pool::{Flags, Pool, MAX_EXPRESSIONS};
+use judge::run::on_large_stack;
+use searches::question::{ask, Answer, Question};
+use searches::refusals::{BITS, NOT_THERE, NO_IDENTITY, VISITS};
+use searches::search::Search;
+use searches::vectors;
+
+const MALFORMED: u8 = 1;
+const CHILD_COUNT: u8 = 2;
+const CYCLE: u8 = 4;
+const FULL: u8 = 9;
+
+const UNWRITTEN: u64 = 0xa5a5_a5a5_a5a5_a5a5;
+
+fn pool(trees: &[Tree]) -> Pool {
+    let flagged: Vec<_> = trees.iter().map(|tree| (tree.clone(), Flags::NONE)).collect();
+    Case::new("", &flagged, &[]).script.pool
+}
+
+/// Document 01's example: e0 = cm0·cm1, e1 = e0·cm2.
+fn frames() -> Vec<u8> {
+    pool_frames(&pool(&[mul(cm(0), cm(1)), mul(exp(0), cm(2))]))
+}
+
+/// What is found, or the refusal's number, which leaves all as it was.
+fn found(
+    frames: &[u8],
+    identities: &[u64],
+    bits: [u64; 2],
+    limit: u64,
+) -> Result<([u64; SET_WORDS], [u64; 2]), u8> {
+    let (mut chosen, mut found) = ([UNWRITTEN; SET_WORDS], [UNWRITTEN; 2]);
+    match library::search(frames, identities, bits, limit, &mut chosen, &mut found) {
+        0 => Ok((chosen, found)),
+        number => {
+            assert_eq!((chosen, found), ([UNWRITTEN; SET_WORDS], [UNWRITTEN; 2]));
+            Err(number)
+        }
+    }
+}
+
+fn refused(identities: &[u64], bits: [u64; 2], limit: u64) -> Option<u8> {
+    found(&frames(), identities, bits, limit).err()
+}
+
+#[test]
+fn document_01s_example_is_found() {
+    let set = [1, 0, 0, 0, 0, 0, 0, 0];
+    assert_eq!(found(&frames(), &[1], [3, 3], 10), Ok((set, [1, 10])));
+    assert_eq!(found(&frames(), &[1], [3, 4], 12), Ok((set, [1, 12])));
+    assert_eq!(found(&frames(), &[1], [3, 4], u64::MAX), Ok((set, [1, 12])));
+    for limit in 0..12 {
+        assert_eq!(refused(&[1], [3, 4], limit), Some(VISITS));
+    }
+}
+
+#[test]
+fn no_identity_comes_before_bits() {
+    assert_eq!(refused(&[], [3, 3], 10), Some(NO_IDENTITY));
+    assert_eq!(refused(&[], [25, 0], 0), Some(NO_IDENTITY));
+}
+
+#[test]
+fn bits_are_in_range() {
+    let wide = 1 << 32;
+    for (n_bits, n_bits_ext) in [
+        (3, 2),
+        (3, 8),
+        (25, 25),
+        (24, 29),
+        (0, 5),
+        (256, 256),
+        (wide, wide),
+        (wide + 3, 3),
+        (3, wide + 3),
+        (u64::MAX, 0),
+        (u64::MAX, u64::MAX),
+        (u64::MAX - 1, 2),
+        (0, u64::MAX),
+    ] {
+        assert_eq!(refused(&[9], [n_bits, n_bits_ext], 0), Some(BITS), "{} {}", n_bits, n_bits_ext);
+    }
+    for bits in [[0, 0], [0, 4], [24, 24], [24, 28]] {
+        assert_eq!(refused(&[1], bits, 1_000_000), None, "{:?}", bits);
+    }
+}
+
+#[test]
+fn identities_are_expressions() {
+    for identity in [2, 511, 512, 1 << 16, 1 << 32, (1 << 32) + 1, 1 << 63, u64::MAX] {
+        assert_eq!(refused(&[identity], [3, 3], 0), Some(NOT_THERE), "{}", identity);
+        assert_eq!(refused(&[1, identity], [3, 3], 0), Some(NOT_THERE), "{}", identity);
+    }
+    assert_eq!(refused(&[1; 1000], [3, 3], 10), Some(VISITS));
+}
+
+#[test]
+fn a_limit_of_0_is_passed_by_every_search() {
+    for bits in [[3, 3], [3, 7]] {
+        assert_eq!(refused(&[0], bits, 0), Some(VISITS));
+    }
+}
+
+#[test]
+fn a_pool_is_admitted_first() {
+    let of = |frames: &[u8]| found(frames, &[], [99, 0], 0).err();
+    let whole = frames();
+    assert_eq!(of(&[]), Some(NO_IDENTITY));
+    assert_eq!(of(&whole[..whole.len() - 1]), Some(MALFORMED));
+    assert_eq!(of(&[0xff; 9]), Some(MALFORMED));
+    assert_eq!(of(&[0; 9]), Some(MALFORMED));
+    let hex = |lines: &[&str]| -> Vec<u8> {
+        crate::record::framed(lines.iter().map(|line| judge::hex::decode(line).unwrap()))
+    };
+    assert_eq!(of(&hex(&["0107000000020000"])), Some(MALFORMED));
+    assert_eq!(of(&hex(&["010700000000"])), Some(CHILD_COUNT));
+    assert_eq!(of(&hex(&["0107000000010001"])), Some(NOT_THERE));
+    assert_eq!(of(&hex(&["02000000"])), Some(NOT_THERE));
+    assert_eq!(of(&hex(&["011200000000", "02000000"])), Some(CYCLE));
+    assert_eq!(of(&hex(&["011000000000"; 4096])), Some(NO_IDENTITY));
+    assert_eq!(of(&hex(&["011000000000"; 4097])), Some(FULL));
+}
+
+/// e511 is the sum of e0·cm, .., e510·cm, each a product: all of them are cut.
+#[test]
+fn a_set_has_up_to_511_members() {
+    let last = MAX_EXPRESSIONS as u16 - 1;
+    let mut trees: Vec<Tree> = (0..last).map(|_| mul(cm(0), cm(1))).collect();
+    trees.push((1..last).fold(mul(exp(0), cm(2)), |sum, e| add(sum, mul(exp(e), cm(2)))));
+    let (pool, identities) = (pool(&trees), vec![last]);
+    let search = Search { pool, identities, n_bits: 3, n_bits_ext: 3, limit: 1_000_000 };
+    let question = Question::Search(search);
+    let answer = on_large_stack(|| ask(&question)).unwrap();
+    match &answer {
+        Answer::Found(found) => assert_eq!(found.set.len(), usize::from(last)),
+        other => panic!("{}", other),
+    }
+    assert_eq!(say(&question), Ok(Some(answer)));
+}
+
+#[test]
+fn the_stored_vectors_are_answered() {
+    let path = concat!(env!("CARGO_MANIFEST_DIR"), "/../../vectors/searches.txt");
+    let text = std::fs::read_to_string(path).unwrap();
+    let mut asked = 0;
+    for vector in vectors::parse(&text).unwrap() {
+        if let Some(answer) = say(&vector.case.question).unwrap() {
+            assert_eq!(answer.to_string(), vector.answer, "{}", vector.case.name);
+            asked += 1;
+        }
+    }
+    assert!(asked > 100, "{} vectors", asked);
+}

@@ -1,0 +1,66 @@
+//! The port's answers to questions about searches.
+
+use crate::library::{self, SET_WORDS};
+use crate::record::pool_frames;
+use crate::spread;
+use judge::random::Random;
+use searches::question::{Answer, Question};
+use searches::search::{visits_needed, Found, Search};
+use searches::tally::{Labelled, Said};
+
+/// One search of so many has its expressions spread.
+const SPREAD_EVERY: u64 = 4;
+
+/// Limits are tried around the visits of searches that need at most so many.
+const FEW_VISITS: u64 = 5_000;
+
+/// What stands where nothing was written.
+const UNWRITTEN: u64 = 0xa5a5_a5a5_a5a5_a5a5;
+
+/// Random searches, each also with one visit less than it needs, as many and one more, and some with
+/// large numbers.
+pub fn questions(seed: u64, index: u64) -> Vec<Labelled> {
+    let mut search = searches::random::search(seed, index);
+    let mut label = "search";
+    if index % SPREAD_EVERY == 0 {
+        search = spread::search(&mut Random::new(seed, !index), &search);
+        label = "search, spread";
+    }
+    let mut limits = vec![(label, search.limit)];
+    if let Some(needed) = visits_needed(&Search { limit: FEW_VISITS, ..search.clone() }) {
+        if needed > 0 {
+            limits.push(("one visit less", needed - 1));
+        }
+        limits.extend([("as many visits", needed), ("one visit more", needed + 1)]);
+    }
+    let question = |limit| Question::Search(Search { limit, ..search.clone() });
+    limits.into_iter().map(|(label, limit)| Labelled::new(label, question(limit))).collect()
+}
+
+/// To a search; the constraint is not exported.
+pub fn say(question: &Question) -> Said {
+    match question {
+        Question::Search(search) => answer(search).map(Some),
+        Question::Constraint(_) => Ok(None),
+    }
+}
+
+fn answer(search: &Search) -> Result<Answer, String> {
+    let frames = pool_frames(&search.pool);
+    let identities: Vec<u64> = search.identities.iter().map(|&e| e.into()).collect();
+    let bits = [search.n_bits.into(), search.n_bits_ext.into()];
+    let (mut chosen, mut found) = ([UNWRITTEN; SET_WORDS], [UNWRITTEN; 2]);
+    let number = library::search(&frames, &identities, bits, search.limit, &mut chosen, &mut found);
+    if number == 0 {
+        let [q, visits] = found;
+        return Ok(Answer::Found(Found { set: members(&chosen), q: q as usize, visits }));
+    }
+    if chosen != [UNWRITTEN; SET_WORDS] || found != [UNWRITTEN; 2] {
+        return Err(format!("refused with {}, and what was lent has changed\n", number));
+    }
+    Ok(Answer::Refused(number))
+}
+
+fn members(chosen: &[u64; SET_WORDS]) -> Vec<usize> {
+    (0..64 * SET_WORDS).filter(|e| chosen[e / 64] >> (e % 64) & 1 == 1).collect()
+}

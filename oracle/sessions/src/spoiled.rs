@@ -1,0 +1,121 @@
+//! Faults in what is lent to a walk, and the number that they get.
+
+use crate::planned::{Lent, Stage};
+use crate::record::{REFERENCE, STEP};
+use judge::pool::{MAX_EXPRESSIONS, MAX_NODES};
+use plans::input::Input;
+use plans::plan::Plan;
+use plans::refusals::{FULL, MALFORMED};
+
+#[derive(Clone, Copy, Debug, PartialEq, Eq)]
+pub enum Fault {
+    Domain,
+    Counter,
+    /// A list with a byte too few, or too many.
+    CutList,
+    LongList,
+    /// Of a reference that counts.
+    Kind,
+    Prime,
+    SourceCount,
+    ShortPlan,
+    LongPlan,
+    ShortFrames,
+    GarbageFrames,
+}
+
+const OF_STEPS: [Fault; 4] = [Fault::CutList, Fault::Kind, Fault::Prime, Fault::SourceCount];
+const OF_FIX: [Fault; 2] = [Fault::Domain, Fault::Counter];
+const OF_ANY: [Fault; 5] =
+    [Fault::LongList, Fault::ShortPlan, Fault::LongPlan, Fault::ShortFrames, Fault::GarbageFrames];
+
+const NO_KINDS: [u8; 6] = [0, 1, 7, 0x1b, 0x29, u8::MAX];
+const NO_DOMAINS: [u8; 2] = [2, u8::MAX];
+const NO_COUNTERS: [usize; 2] = [1 << 16, usize::MAX];
+
+/// Any number that what is lent determines.
+fn drawn(lent: &Lent) -> usize {
+    let bytes = lent.frames.iter().chain(&lent.plan).chain(lent.lists.iter().flatten());
+    bytes.fold(lent.counter[0], |sum, &byte| {
+        sum.wrapping_mul(0x0100_0000_01b3).wrapping_add(usize::from(byte))
+    }) >> 17
+}
+
+/// The list that has a step, if one has.
+fn list_with_a_step(stage: Stage, lent: &Lent) -> Option<usize> {
+    (0..stage.lists()).rev().find(|&place| !lent.lists[place].is_empty())
+}
+
+impl Fault {
+    /// One that can be put into this call.
+    pub fn of(stage: Stage, lent: &Lent) -> Fault {
+        let mut faults = OF_ANY.to_vec();
+        if let Stage::Fix(_) = stage {
+            faults.extend(OF_FIX);
+        }
+        if list_with_a_step(stage, lent).is_some() {
+            faults.extend(OF_STEPS);
+        }
+        faults[drawn(lent) % faults.len()]
+    }
+
+    pub fn put_in(self, stage: Stage, lent: &mut Lent) -> Stage {
+        let any = drawn(lent) / 64;
+        let list = list_with_a_step(stage, lent);
+        match self {
+            Fault::Domain => return Stage::Fix(NO_DOMAINS[any % NO_DOMAINS.len()]),
+            Fault::Counter => lent.counter = [NO_COUNTERS[any % NO_COUNTERS.len()]],
+            Fault::CutList => {
+                lent.lists[list.expect("a step")].pop();
+            }
+            Fault::LongList => lent.lists[any % stage.lists()].push(0),
+            Fault::Kind | Fault::Prime | Fault::SourceCount => {
+                self.put_into_step(any, &mut lent.lists[list.expect("a step")]);
+            }
+            Fault::ShortPlan | Fault::LongPlan => self.put_into_plan(&mut lent.plan),
+            Fault::ShortFrames => {
+                lent.frames.pop();
+            }
+            // A length, and a frame that begins with no known byte.
+            Fault::GarbageFrames => lent.frames.extend([0, 5, 4, 0, 0, 0, 0]),
+        }
+        stage
+    }
+
+    /// One byte, or two where one would make it well formed.
+    fn put_into_plan(self, plan: &mut Vec<u8>) {
+        loop {
+            match self {
+                Fault::LongPlan => plan.push(0),
+                _ => plan.truncate(plan.len().saturating_sub(1)),
+            }
+            if Plan::decode(plan).is_none() {
+                return;
+            }
+        }
+    }
+
+    fn put_into_step(self, any: usize, list: &mut [u8]) {
+        let step = STEP * (any % (list.len() / STEP));
+        let count = usize::from(list[step + 1]);
+        let reference = step + 4 + REFERENCE * (any / 64 % (1 + count));
+        match self {
+            Fault::Kind => list[reference] = NO_KINDS[any / 512 % NO_KINDS.len()],
+            Fault::Prime => list[reference + 1] = 2,
+            _ => list[step + 1] = 4,
+        }
+    }
+
+    /// Frames are read first, then the plan, then the rest.
+    pub fn number(self, input: &Input, plan: &[u8]) -> u8 {
+        let past_limits =
+            input.pool.nodes.len() > MAX_NODES || input.pool.expressions.len() > MAX_EXPRESSIONS;
+        if past_limits {
+            return FULL;
+        }
+        if let Fault::ShortFrames | Fault::GarbageFrames = self {
+            return MALFORMED;
+        }
+        Plan::read(plan).err().unwrap_or(MALFORMED)
+    }
+}
