@@ -1,0 +1,4 @@
+-- The constraint's nodes after those of a pool, what the functions ask and give, and that the pool with them stands for the extended forest.
+pub mod Nodes
+pub mod Asked
+pub mod Copies

@@ -1,0 +1,3 @@
+// The constraint polynomial's expression, added to a pool that stands in tables.
+pub mod copy;
+pub mod join;
