@@ -1,3 +1,4 @@
 -- Lemmas over plain variables, which the functions' proofs cite.
 pub mod Trees
 pub mod Joins
+pub mod Loops

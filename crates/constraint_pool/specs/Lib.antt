@@ -2,3 +2,5 @@
 pub mod Nodes
 pub mod Asked
 pub mod Copies
+pub mod Whole
+pub mod Lists

@@ -1,3 +1,4 @@
 // The constraint polynomial's expression, added to a pool that stands in tables.
 pub mod copy;
+pub mod extend;
 pub mod join;
