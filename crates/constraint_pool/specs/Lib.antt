@@ -4,3 +4,5 @@ pub mod Asked
 pub mod Copies
 pub mod Whole
 pub mod Lists
+pub mod Fine
+pub mod Extended
