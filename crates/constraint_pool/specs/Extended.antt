@@ -34,14 +34,14 @@ use Rattle.constraint_pool.specs.Fine.{Good, Labelled, labelled-tree, Fi
 
 -- ---- nodes appended
 
-abbrev at-of : List Node → ℕ → Node
+abbrev pub at-of : List Node → ℕ → Node
 at-of xs n = orElse (nth xs n) blank
 
-node-before : (xs ys : List Node) (n : ℕ) → n < length xs → at-of (xs ++ ys) n ≡ at-of xs n
+pub node-before : (xs ys : List Node) (n : ℕ) → n < length xs → at-of (xs ++ ys) n ≡ at-of xs n
 node-before xs ys n h = ap (λ z. orElse z blank) (nth-before xs ys n h)
 
 -- a property of each node with its number
-abbrev Every : (ℕ → Node → Type 0) → ℕ → List Node → Type 0
+abbrev pub Every : (ℕ → Node → Type 0) → ℕ → List Node → Type 0
 Every Q k [] = Unit {0}
 Every Q k (x ∷ xs) = Q k x × Every Q (suc k) xs
 
@@ -51,7 +51,7 @@ every-at Q (x ∷ xs) k zero e h = subst (λ j. Q j x) (sym (add-zero k)) (e .0)
 every-at Q (x ∷ xs) k (suc n) e h =
     subst (λ j. Q j (at-of xs n)) (let z : suc k + n ≡ k + suc n = omega arith in z) (every-at Q xs (suc k) n (e .1) (le-of-suc-le-suc h))
 
-every-from : (Q : ℕ → Node → Type 0) (xs : List Node) (k : ℕ) → ((n : ℕ) → n < length xs → Q (k + n) (at-of xs n)) → Every Q k xs
+pub every-from : (Q : ℕ → Node → Type 0) (xs : List Node) (k : ℕ) → ((n : ℕ) → n < length xs → Q (k + n) (at-of xs n)) → Every Q k xs
 every-from Q [] k h = tt
 every-from Q (x ∷ xs) k h = (
   subst (λ j. Q j x) (add-zero k) (h 0 (omega arith)),
@@ -62,11 +62,11 @@ every-join : (Q : ℕ → Node → Type 0) (k : ℕ) (xs ys : List Node) (j : �
 every-join Q k [] ys j e a b = subst (λ i. Every Q i ys) (let z : j ≡ k = omega arith in z) b
 every-join Q k (x ∷ xs) ys j e a b = (a .0, every-join Q (suc k) xs ys j (omega arith) (a .1) b)
 
-every-left : (Q : ℕ → Node → Type 0) (k : ℕ) (xs ys : List Node) → Every Q k (xs ++ ys) → Every Q k xs
+pub every-left : (Q : ℕ → Node → Type 0) (k : ℕ) (xs ys : List Node) → Every Q k (xs ++ ys) → Every Q k xs
 every-left Q k [] ys a = tt
 every-left Q k (x ∷ xs) ys a = (a .0, every-left Q (suc k) xs ys (a .1))
 
-every-right : (Q : ℕ → Node → Type 0) (k : ℕ) (xs ys : List Node) (j : ℕ) → k + length xs ≡ j → Every Q k (xs ++ ys) → Every Q j ys
+pub every-right : (Q : ℕ → Node → Type 0) (k : ℕ) (xs ys : List Node) (j : ℕ) → k + length xs ≡ j → Every Q k (xs ++ ys) → Every Q j ys
 every-right Q k [] ys j e a = subst (λ i. Every Q i ys) (let z : k ≡ j = omega arith in z) a
 every-right Q k (x ∷ xs) ys j e a = every-right Q (suc k) xs ys j (omega arith) (a .1)
 
@@ -92,7 +92,7 @@ unused-children m k n (x ∷ xs) r h =
     times-append n (children x) (childUses xs)
     ∙ omega (arith, unused k n (children x) (r .0 .1) (omega arith), unused-children m (suc k) n xs (r .1) (omega arith))
 
-abbrev root-of : List Expression → ℕ → ℕ
+abbrev pub root-of : List Expression → ℕ → ℕ
 root-of xs e = orElse (nth xs e) (record { root = 0; flags = 0 }) .root
 
 unused-roots : (k n : ℕ) (xs : List Expression) → ((e : ℕ) → e < length xs → root-of xs e < k) → k ≤ n → times n (rootUses xs) ≡ 0
@@ -109,10 +109,10 @@ roots-append (x ∷ xs) y = ap (λ z. x .root ∷ z) (roots-append xs y)
 
 -- ---- lists of identities and members
 
-below-head : (m e : ℕ) (es : List ℕ) → AllBelow m (e ∷ es) → e < m
+pub below-head : (m e : ℕ) (es : List ℕ) → AllBelow m (e ∷ es) → e < m
 below-head m e es a = a 0 (omega arith)
 
-below-tail : (m e : ℕ) (es : List ℕ) → AllBelow m (e ∷ es) → AllBelow m es
+pub below-tail : (m e : ℕ) (es : List ℕ) → AllBelow m (e ∷ es) → AllBelow m es
 below-tail m e es a k h = a (suc k) (omega arith)
 
 module _ (vc : ℕ) where
@@ -174,19 +174,19 @@ pub record Extends (p : Pool) (vc i e : ℕ) (es ms : List ℕ) : Type 0 where
   pub room : length (p .nodes) + length (constraintNodes p vc i e es ms) ≤ 65536
 
 module _ (p : Pool) (vc i e : ℕ) (es ms : List ℕ) (x : Extends p vc i e es ms) where
-  abbrev N : ℕ
+  abbrev pub N : ℕ
   N = length (p .nodes)
 
-  abbrev M : ℕ
+  abbrev pub M : ℕ
   M = length (p .expressions)
 
-  abbrev ns : List Node
+  abbrev pub ns : List Node
   ns = constraintNodes p vc i e es ms
 
-  abbrev q : Pool
+  abbrev pub q : Pool
   q = withConstraint p vc i e es ms
 
-  body : (k : ℕ) → k < M → Labelled M (node p) (bodyOf p k)
+  pub body : (k : ℕ) → k < M → Labelled M (node p) (bodyOf p k)
   body k h = labelled-tree M p (x .shaped) (x .good) (rootOf p k) (x .shaped .rooted k h)
 
   head-fold : Tied N (leafNode kind.exp e ∷ identitiesNodes vc (N + 1) es)
@@ -260,11 +260,11 @@ module _ (p : Pool) (vc i e : ℕ) (es ms : List ℕ) (x : Extends p vc i e es m
           omega (arith, all-uses n, span-before n N (length ns) l, x .shaped .once n l)
       by false e = omega (arith, all-uses n, old-unused n (ltb-false n N e), span-once n N (length ns))
 
-  root-kept : (k : ℕ) → k < M → rootOf q k ≡ rootOf p k
+  pub root-kept : (k : ℕ) → k < M → rootOf q k ≡ rootOf p k
   unfolding withConstraint
   root-kept k h = ap (λ (z : Option Expression). orElse z (record { root = 0; flags = 0 }) .root) (nth-before (p .expressions) _ k h)
 
-  root-new : rootOf q M ≡ last N (length ns)
+  pub root-new : rootOf q M ≡ last N (length ns)
   unfolding withConstraint
   root-new = ap (λ (z : Option Expression). orElse z (record { root = 0; flags = 0 }) .root) (nth-end (p .expressions) _)
 

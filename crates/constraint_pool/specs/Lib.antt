@@ -6,3 +6,4 @@ pub mod Whole
 pub mod Lists
 pub mod Fine
 pub mod Extended
+pub mod Forest
