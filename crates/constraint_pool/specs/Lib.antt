@@ -7,3 +7,4 @@ pub mod Lists
 pub mod Fine
 pub mod Extended
 pub mod Forest
+pub mod Added
