@@ -2,3 +2,5 @@
 pub mod Trees
 pub mod Joins
 pub mod Loops
+pub mod Measures
+pub mod Verdicts

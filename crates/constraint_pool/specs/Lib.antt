@@ -8,3 +8,6 @@ pub mod Fine
 pub mod Extended
 pub mod Forest
 pub mod Added
+pub mod Sizes
+pub mod Judging
+pub mod Extending
