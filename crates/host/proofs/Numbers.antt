@@ -33,6 +33,10 @@ use Rattle.degree_search.specs.declared.choose.Searched.{Searched}
 use Rattle.degree_search.specs.declared.choose.Searched.the-variants as searched
 use Rattle.degree_search.specs.declared.search.Outcome.{Outcome}
 use Rattle.degree_search.specs.declared.search.Outcome.the-variants as outcome
+use Rattle.plan_map.specs.Whole.{mapSays, MapIs}
+use Rattle.plan_map.specs.declared.map.Mapping.{Mapping}
+use Rattle.plan_map.specs.declared.map.Mapping.the-variants as mapping
+use Rattle.host.specs.Maps.{MapNumbered}
 use Rattle.host.specs.Plans.{WalkNumbered, WalkCounted}
 use Rattle.host.specs.Searches.{searchedNo, outcomeNo, choiceTold, foundTold, ranTold, setIs, SearchNumbered}
 use Rattle.host.specs.Numbered.{FreshNumbered, ServeNumbered, BuildNumbered, EvaluateNumbered, sizesTold, cellsTold}
@@ -150,3 +154,13 @@ search-numbered s es b e limit {w′ = w′} {z = z} {r = r} g q h vc =
       subst (λ (a : Answer Choice). setIs a w′) (x .says) (set-told r w′),
       h ∙ told-same r w′ z ∙ ap (λ (a : Answer Choice). choiceTold a z) (x .says),
     )
+
+-- ── the answer of a plan ─────────────────────────────────────────────────────
+-- where there is no plan the count is what it was
+pub unplanned-size : {r : Mapping} {u : Unplanned} (z : List ℕ) → r ≡ mapping.Unplanned u → z ≡ cellsTold (mapSays r) z
+unplanned-size {r} {u} z e = sym (ap (λ (t : Mapping). cellsTold (mapSays t) z) e ∙ ap (λ t. cellsTold t z) (reason u .says ℕ))
+
+pub map-numbered :
+    (s b o z : List ℕ) {o′ z′ : List ℕ} {r : Mapping} {n : ℕ} → MapIs s b o o′ r → n ≡ answerNo (mapSays r) → z′ ≡ cellsTold (mapSays r) z → MapNumbered s b o o′ z z′ n
+map-numbered s b o z g e h =
+    (g .answer, g .goes, e ∙ ap answerNo (g .does .says) ∙ same-then (g .answer) length, g .does .room, h ∙ ap (λ t. cellsTold t z) (g .does .says))

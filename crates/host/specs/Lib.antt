@@ -1,4 +1,5 @@
 -- What the exported functions' contracts cite.
 pub mod Numbered
 pub mod Plans
+pub mod Maps
 pub mod Searches

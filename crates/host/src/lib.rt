@@ -1,5 +1,6 @@
 // Generation and the evaluator for a program in another language: each function takes numbers and lent bytes, asks nothing of them, and answers with a number: 0 where it
 // was done, else the refusal's, and then nothing lent has changed.
+pub mod map;
 pub mod plan;
 pub mod search;
 

@@ -27,7 +27,7 @@ ghost use Rattle.plan_walks.specs.Dimension.{dimensionBy};
 ghost use Rattle.host.specs.Numbered.{cellsTold};
 ghost use Rattle.host.specs.Plans.{unplannedAs, WalkNumbered, WalkCounted};
 
-fn unplanned_number(u: Unplanned) -> u8
+pub fn unplanned_number(u: Unplanned) -> u8
     ensures { λ n. ⌜ n ≡ answerNo (unplannedAs u) ⌝ }
 {
     match u {

@@ -1,6 +1,6 @@
 -- The whole answer: of a plan that is drawn up, and of frames. Assumes nothing.
 use Prim.Native.Nat.{ℕ, _+_, _*_, _<_, _≤_}
-use mathlib.Core.Path.{_≡_, refl, sym, _∙_, ap, ap₂, subst}
+use mathlib.Core.Path.{_≡_, refl, sym, _∙_, ap, ap₂}
 use mathlib.Core.Bool.{true}
 use mathlib.Core.Option.{none}
 use mathlib.Core.List.{List, [], _∷_, _++_}
@@ -16,7 +16,7 @@ use Rattle.plans.specs.Columns.{recordLimit, recordCount}
 use Rattle.plans.specs.Agreement.{cmCount}
 use Rattle.sections.specs.Sums.{each-length}
 use Rattle.sections.specs.Sections.{known, positionsFrom}
-use Rattle.map_records.specs.Mapping.{cmLimit, cm1N, cm4N, twin, mapped, qDim}
+use Rattle.map_records.specs.Mapping.{cmLimit, cm1N, cm4N, twin, mapped}
 use Rattle.map_records.specs.Sizes.{mapped-size}
 use Rattle.map_records.specs.Agreed.{few-cms}
 use Rattle.plan_tables.specs.Tables.{numbersIn, columnRecords, recordOf, positions, exp2pol, cmN}
@@ -34,7 +34,7 @@ use Rattle.planning.specs.declared.answer.Unplanned.{Unplanned}
 use Rattle.planning.specs.declared.answer.Plan.{Plan}
 use Rattle.planning.specs.declared.answer.Planning.{Planning}
 use Rattle.planning.specs.declared.answer.Planning.the-variants as planning
-use Rattle.plan_map.specs.Numbers.{u16s, rowsBy, columnRow, sectionNumbers, cmNumbers, expressionNumbers, counts, mapNumbers, mapBytes}
+use Rattle.plan_map.specs.Numbers.{rowsBy, columnRow, sectionNumbers, cmNumbers, expressionNumbers, counts, mapNumbers, mapBytes}
 use Rattle.plan_map.specs.Puts.{Puts, u16s-size, puts-next, puts-is, rows-size}
 use Rattle.plan_map.specs.Parts.{headSize, SectionsAsked, SectionsGiven, CmsAsked, CmsGiven, ExpressionsAsks}
 use Rattle.plan_map.specs.Whole.{mapBy, outAfter, Does, MapIs}

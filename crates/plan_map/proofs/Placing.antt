@@ -1,17 +1,16 @@
 -- The sections: positions and widths, the head of the answer, and the records. Assumes nothing.
 use Prim.Native.Nat.{ℕ, zero, suc, _+_, _*_, _<_, _≤_}
-use mathlib.Core.Path.{_≡_, refl, sym, _∙_, ap, ap₂, subst}
+use mathlib.Core.Path.{_≡_, refl, sym, _∙_, ap, ap₂}
 use mathlib.Core.Bool.{true}
 use mathlib.Core.List.{List, [], _∷_, _++_, append-assoc}
 use native.Mathlib.Omega.{arith}
 use lib.ListN.{length, getD, take, replicate, length-append, length-replicate}
 use lib.Seq.{take-all, take-at, getD-take, length-take-le}
-use lib.Dec.{eqb}
 use borrow.Author.Tests.{eq-eqb}
 use Rattle.meaning.specs.Refusals.{done}
 use Rattle.plans.specs.Columns.{recordLimit}
 use Rattle.sections.specs.Sums.{each, each-length}
-use Rattle.sections.specs.Sections.{Mapping, mapping, known, sectionCount, widthCount, widths, firstWidth, wholeWidth, thirdWidth, wellFormed, positionsFrom, positionOf}
+use Rattle.sections.specs.Sections.{mapping, known, sectionCount, widthCount, widths, firstWidth, wholeWidth, thirdWidth, wellFormed, positionsFrom, positionOf}
 use Rattle.sections.specs.Answer.{MappedIs, positionsAfter, widthsAfter}
 use Rattle.sections.specs.Exactly.{maps}
 use Rattle.sections.specs.declared.«map_section».Mapped.{Mapped}

@@ -1,10 +1,10 @@
 -- The cm and the expressions, from tables with numbers at their front. Assumes nothing.
-use Prim.Native.Nat.{ℕ, _+_, _*_, _<_, _≤_}
-use mathlib.Core.Path.{_≡_, refl, sym, _∙_, ap, ap₂, subst}
-use mathlib.Core.List.{List, [], _∷_, _++_}
+use Prim.Native.Nat.{ℕ, _+_, _<_, _≤_}
+use mathlib.Core.Path.{_≡_, sym, _∙_, ap, ap₂}
+use mathlib.Core.List.{List, _++_}
 use native.Mathlib.Omega.{arith}
 use lib.ListN.{length, getD, take, replicate, length-replicate}
-use lib.Seq.{getD-take, length-take-le}
+use lib.Seq.{getD-take}
 use Rattle.kinds.specs.Write.{write}
 use Rattle.frames.specs.Order.{expressionLimit}
 use Rattle.pool.specs.Pool.{Pool}

@@ -11,7 +11,7 @@ use Rattle.kinds.specs.BigEndian.{u16Bytes}
 use Rattle.plans.specs.Plan.{nBits, nBitsExt}
 use Rattle.plans.specs.Agreement.{cmCount}
 use Rattle.sections.specs.Sections.{widths}
-use Rattle.map_records.specs.Mapping.{Mapping, cm1N, cm4N, tmpexpN, twin, qDim}
+use Rattle.map_records.specs.Mapping.{Mapping, cm1N, cm4N, twin, qDim}
 use Rattle.plan_tables.specs.Tables.{numbersIn, columnRecords, positions, exp2pol, offsetCount, offsetsOf}
 use Rattle.planning.specs.Planning.{Planned}
 

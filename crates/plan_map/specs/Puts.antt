@@ -1,10 +1,10 @@
 -- NUMBERS PUT INTO A LENT LIST OF BYTES, and where they end. Assumes nothing.
-use Prim.Native.Nat.{ℕ, zero, suc, _+_, _*_, _<_, _≤_}
+use Prim.Native.Nat.{ℕ, zero, suc, _+_, _*_, _<_}
 use mathlib.Core.Path.{_≡_, refl, sym, _∙_, ap, ap₂, subst}
 use mathlib.Core.List.{List, [], _∷_, _++_, append-assoc, append-nil}
 use native.Mathlib.Omega.{arith}
 use native.Mathlib.Numerals.{add-one}
-use lib.ListN.{length, getD, length-append}
+use lib.ListN.{length, length-append}
 use Rattle.kinds.specs.Write.{write, write-none, write-length, write-next}
 use Rattle.kinds.specs.BigEndian.{u16Bytes, u16-sized}
 use Rattle.plan_map.specs.Numbers.{u16s, rowsBy}
