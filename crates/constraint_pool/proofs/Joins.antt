@@ -27,9 +27,6 @@ pub scaled-given :
     → Appends w l at (x ∷ []) w₁ l₁ i → Appends w₁ l₁ i (y ∷ []) w₂ l₂ j → Appends w l at (scaled vc at) w₂ l₂ j
 scaled-given {at = at} {b = b} d e f g p q = appends-next (appends-is f p) (appends-is (g ∙ ap (λ z. pairNode kind.mul z b) d ∙ ap (pairNode kind.mul at) e) q)
 
-pub scaled-next : {w l w′ l′ : List ℕ} {at vc r : ℕ} → Appends w l at (scaled vc at) w′ l′ r → r ≡ at + 2
-scaled-next p = p .next
-
 module _ {w l w₁ l₁ w₂ l₂ w₃ l₃ : List ℕ} {at vc e i j k : ℕ} (p : Appends w l at (scaled vc at) w₁ l₁ i) where
   pub identity-given :
       {x y : Node} {a b : ℕ} → a ≡ i - 1 → b ≡ i → x ≡ leafNode kind.exp e → y ≡ pairNode kind.add a b
@@ -42,9 +39,6 @@ module _ {w l w₁ l₁ w₂ l₂ w₃ l₃ : List ℕ} {at vc e i j k : ℕ} (p
 module _ {w l x : List ℕ} {n m at i : ℕ} (a : MemberAsks w l x n m at i) where
   abbrev P : Pool
   P = tabled (Tabling w l x n m)
-
-  s : ℕ
-  s = size (tree P i)
 
   pub scale-asks : ScaleAsks at
   scale-asks = record { some = a .some; room = omega (arith, a .room) }

@@ -83,9 +83,6 @@ module _ {w l x : List ℕ} {n m i : ℕ} (a : SizeAsks w l x n m i) where
           pub one-size : {r : ℕ} → c ≡ 1 → r ≡ min over (s + 1) → r ≡ min over (size (tree P i))
           one-size q h = omega (arith, tree0, law 1 q .0)
 
-          pub small0 : s ≤ over
-          small0 = omega arith
-
           module _ (more : c ≡ 1 → ⊥) where
             second-less : childIn w i 1 < i
             second-less = go c refl

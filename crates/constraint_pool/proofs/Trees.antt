@@ -48,9 +48,6 @@ module _ {w l x : List ℕ} {n m at i : ℕ} (a : CopyAsks w l x n m at i) where
     leaf-given {w′} {l′} {y} {q} z f p = subst (λ ns. Appends w l at ns w′ l′ q) (ap (λ b. b ∷ []) f ∙ sym (law 0 z .1 at)) p
 
     module _ (some : r .count ≡ 0 → ⊥) where
-      s₀ : ℕ
-      s₀ = size (tree P (r .c0))
-
       first-part : (r .c0 < i) × (size (tree P (r .c0)) < size (tree P i))
       first-part = go (r .count) refl
         where
