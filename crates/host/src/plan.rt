@@ -1,11 +1,11 @@
 // The walks over a segment's lists by a plan, for a program in another language.
-use kinds::refusal::BIT_COUNTS;
+use kinds::refusal::BITS;
 use kinds::refusal::CHILD_COUNT;
-use kinds::refusal::COUNTS_DISAGREE;
+use kinds::refusal::COUNTS;
 use kinds::refusal::CYCLE;
-use kinds::refusal::DIMENSIONS_DISAGREE;
 use kinds::refusal::FULL;
 use kinds::refusal::MALFORMED;
+use kinds::refusal::NO_DIMENSION;
 use kinds::refusal::NO_RULE;
 use kinds::refusal::NONE;
 use kinds::refusal::NOT_THERE;
@@ -39,9 +39,9 @@ pub fn unplanned_number(u: Unplanned) -> u8
         Unplanned::NotThere(_) => NOT_THERE,
         Unplanned::Lost => NOT_THERE,
         Unplanned::Cycle(_) => CYCLE,
-        Unplanned::BitCounts => BIT_COUNTS,
-        Unplanned::CountsDisagree => COUNTS_DISAGREE,
-        Unplanned::NoDimension => DIMENSIONS_DISAGREE,
+        Unplanned::BitCounts => BITS,
+        Unplanned::CountsDisagree => COUNTS,
+        Unplanned::NoDimension => NO_DIMENSION,
     }
 }
 
@@ -53,7 +53,7 @@ fn walk_number(r: Walk) -> u8
         Walk::Malformed => MALFORMED,
         Walk::NotThere => NOT_THERE,
         Walk::NoRule => NO_RULE,
-        Walk::NoDimension => DIMENSIONS_DISAGREE,
+        Walk::NoDimension => NO_DIMENSION,
         Walk::Full => FULL,
         Walk::Done(_) => NONE,
     }

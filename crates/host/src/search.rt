@@ -2,26 +2,21 @@
 use degree_search::choose::Searched;
 use degree_search::search::Outcome;
 use degree_search::search::search;
-use kinds::refusal::BIT_COUNTS;
+use kinds::refusal::BITS;
 use kinds::refusal::CHILD_COUNT;
 use kinds::refusal::CYCLE;
 use kinds::refusal::FULL;
 use kinds::refusal::MALFORMED;
+use kinds::refusal::NO_IDENTITY;
+use kinds::refusal::NO_QUOTIENT;
+use kinds::refusal::NO_SET;
 use kinds::refusal::NONE;
 use kinds::refusal::NOT_THERE;
+use kinds::refusal::SEARCH_KIND;
+use kinds::refusal::VISITS;
 use sets::SET_WORDS;
 ghost use mathlib.Core.Path.{_≡_};
 ghost use Rattle.host.specs.Searches.{searchedNo, outcomeNo, foundTold, ranTold, SearchNumbered};
-
-const SEARCH_KIND: u8 = 6;
-
-const NO_SET: u8 = 13;
-
-const NO_QUOTIENT: u8 = 14;
-
-const VISITS: u8 = 15;
-
-const NO_IDENTITY: u8 = 17;
 
 fn searched_number(r: Searched) -> u8
     ensures { λ n. ⌜ n ≡ searchedNo r ⌝ }
@@ -32,7 +27,7 @@ fn searched_number(r: Searched) -> u8
         Searched::Lost => NOT_THERE,
         Searched::Cycle(_) => CYCLE,
         Searched::NoIdentity => NO_IDENTITY,
-        Searched::Bits => BIT_COUNTS,
+        Searched::Bits => BITS,
         Searched::BadKind => SEARCH_KIND,
         Searched::OverLimit => VISITS,
         Searched::NoSet => NO_SET,

@@ -1,4 +1,4 @@
-// The numbers of document 01's refusals, of those that are given up to now; 0 says that none was.
+// The numbers of document 01's refusals; 0 says that none was.
 pub const NONE: u8 = 0;
 
 pub const MALFORMED: u8 = 1;
@@ -11,6 +11,8 @@ pub const CYCLE: u8 = 4;
 
 pub const DOUBLE_PRIME: u8 = 5;
 
+pub const SEARCH_KIND: u8 = 6;
+
 pub const NO_PRIMED_MARK: u8 = 7;
 
 pub const NO_BLOCK: u8 = 8;
@@ -19,8 +21,16 @@ pub const FULL: u8 = 9;
 
 pub const NO_RULE: u8 = 10;
 
-pub const COUNTS_DISAGREE: u8 = 11;
+pub const COUNTS: u8 = 11;
 
-pub const DIMENSIONS_DISAGREE: u8 = 12;
+pub const NO_DIMENSION: u8 = 12;
 
-pub const BIT_COUNTS: u8 = 16;
+pub const NO_SET: u8 = 13;
+
+pub const NO_QUOTIENT: u8 = 14;
+
+pub const VISITS: u8 = 15;
+
+pub const BITS: u8 = 16;
+
+pub const NO_IDENTITY: u8 = 17;

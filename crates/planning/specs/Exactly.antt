@@ -282,3 +282,29 @@ one-plan b own x a c h k = go x refl
 -- and of an entry point that goes on
 pub one-gone : {A : Type 0} (b : List ℕ) (own : Bool) (what : Planned → Answer A) (x : Answer Input) (a c : Answer A) → Goes b own what x a → Goes b own what x c → a ≡ c
 one-gone b own what x a c h k = h .2 ∙ ap (λ (z : Answer Planned). z then what) (one-plan b own x (h .0) (k .0) (h .1) (k .1)) ∙ sym (k .2)
+
+-- EXACTLY WHEN, of an entry point that goes on: a refusal's number comes of the plan, or of what follows it
+module _ {A : Type 0} (b : List ℕ) (own : Bool) (what : Planned → Answer A) (x : Answer Input) (a : Answer A) (h : Goes b own what x a) where
+  -- there is a plan, and what follows it answers with n
+  pub record Follows (n : ℕ) : Type 0 where
+    pub pooled : Planned
+    pub plans : Plans b own x (done pooled)
+    pub number : answerNo (what pooled) ≡ n
+
+  pub exactly-gone : (n : ℕ) → (answerNo a ≡ n) ↔ ((Way b own x n × (n ≡ 0 → ⊥)) ⊎ Follows n)
+  exactly-gone n = (λ e. to (h .0) refl e, back)
+    where
+      to : (z : Answer Planned) → h .0 ≡ z → answerNo a ≡ n → (Way b own x n × (n ≡ 0 → ⊥)) ⊎ Follows n
+      to (done p) q e =
+          inr (record { pooled = p; plans = subst (λ (y : Answer Planned). Plans b own x y) q (h .1); number = sym (ap answerNo (h .2 ∙ ap (λ (y : Answer Planned). y then what) q)) ∙ e })
+      to (refused k o) q e =
+          let is : answerNo a ≡ number k = ap answerNo (h .2 ∙ ap (λ (y : Answer Planned). y then what) q) in
+          inl (subst (Way b own x) (ap answerNo q ∙ sym is ∙ e) (ways b own x (h .0) (h .1)), λ z. number-not-zero k (sym is ∙ e ∙ z))
+
+      refused-so : (z : Answer Planned) → h .0 ≡ z → answerNo (h .0) ≡ n → (n ≡ 0 → ⊥) → answerNo a ≡ n
+      refused-so (done p) q e z = absurd (z (sym e ∙ ap answerNo q))
+      refused-so (refused k o) q e z = ap answerNo (h .2 ∙ ap (λ (y : Answer Planned). y then what) q) ∙ sym (ap answerNo q) ∙ e
+
+      back : (Way b own x n × (n ≡ 0 → ⊥)) ⊎ Follows n → answerNo a ≡ n
+      back (inl w) = refused-so (h .0) refl (way-number b own x (h .0) (h .1) n (w .0)) (w .1)
+      back (inr f) = ap answerNo (h .2 ∙ ap (λ (y : Answer Planned). y then what) (one-plan b own x (h .0) (done (f .pooled)) (h .1) (f .plans))) ∙ f .number
