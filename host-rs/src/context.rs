@@ -132,6 +132,34 @@ impl Context {
         cell < ROWS * MAX_EXPRESSIONS && self.bytes[MARKS_AT + cell] != 0
     }
 
+    /// Forgets every mark, as is done after a build where all is to be generated again.
+    ///
+    /// # Errors
+    ///
+    /// [`Refusal::Malformed`] where blocks stand: one without its mark is malformed.
+    pub fn clear_marks(&mut self) -> Result<(), Refusal> {
+        if self.block_count() != 0 {
+            return Err(Refusal::Malformed);
+        }
+        self.bytes[MARKS_AT..][..ROWS * MAX_EXPRESSIONS].fill(0);
+        Ok(())
+    }
+
+    /// Marks an expression at this row and the next, so that nothing generates it: its value stands in
+    /// a column. Where the pool does not have it, the context is then refused as malformed.
+    ///
+    /// # Errors
+    ///
+    /// [`Refusal::NotThere`] where no pool can have it.
+    pub fn mark_both_ways(&mut self, expression: ExpressionId) -> Result<(), Refusal> {
+        let expression = usize::from(expression.0);
+        if expression >= MAX_EXPRESSIONS {
+            return Err(Refusal::NotThere);
+        }
+        self.bytes[MARKS_AT + ROWS * expression..][..ROWS].fill(1);
+        Ok(())
+    }
+
     fn number_at(&self, at: usize) -> usize {
         usize::from(u16::from_be_bytes([self.bytes[at], self.bytes[at + 1]]))
     }

@@ -6,7 +6,8 @@
 //! and [`walks`] fix lists and give dimensions. What is wrong is a [`Refusal`] with document 01's
 //! number, and what was lent to a refused call is as it was.
 //!
-//! A call needs up to 1.5 MiB of stack; the default thread has 2 MiB.
+//! A call needs up to 1.5 MiB of stack, where a thread of the standard library has 2 MiB. On less, the
+//! process may end, as by any recursion too deep.
 //!
 //! # Example
 //!

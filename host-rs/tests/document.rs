@@ -115,6 +115,33 @@ fn a_build_leaves_kept_blocks_out() {
     assert!(!context.is_marked(kept, false));
 }
 
+/// What other step generators do to a context: mark intermediates, and clear marks after a build.
+#[test]
+fn marks_are_set_and_cleared() {
+    let (frames, e0, e1) = (products(), ExpressionId(0), ExpressionId(1));
+    let asked = frames.with_requests(&[Request::of(e1)]);
+    let mut context = Context::new();
+    context.mark_both_ways(e0).unwrap();
+    assert!(context.is_marked(e0, false) && context.is_marked(e0, true));
+    context.serve(&asked).unwrap();
+    let steps = context.list().steps(&frames).unwrap();
+    assert_eq!(steps.len(), 1);
+    assert_eq!(steps[0].to_string(), "exp:1 = mul exp:0 cm:2");
+    let before = context.clone();
+    assert_eq!(context.clear_marks(), Err(Refusal::Malformed));
+    assert_eq!(context.mark_both_ways(ExpressionId(512)), Err(Refusal::NotThere));
+    assert_eq!(context, before);
+    context.build(&frames).unwrap();
+    context.serve(&asked).unwrap();
+    assert_eq!(context.step_count(), 0);
+    context.clear_marks().unwrap();
+    context.serve(&asked).unwrap();
+    assert_eq!(context.step_count(), 2);
+    context.fresh();
+    context.mark_both_ways(ExpressionId(2)).unwrap();
+    assert_eq!(context.serve(&asked), Err(Refusal::Malformed));
+}
+
 /// e0 = cm0·cm1, e1 = exp0·cm2
 fn products() -> Frames {
     let mut pool = Pool::new();
