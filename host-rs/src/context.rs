@@ -7,7 +7,7 @@ use crate::list::{List, Segment, STEP_SIZE};
 use crate::pool::ExpressionId;
 use crate::refusal::Refusal;
 
-/// Steps that always suffice for what one pool gives from a fresh context to its build.
+/// Steps that always suffice for what one pool gives to requests that ask for no result.
 pub const ROOM: usize = 8192;
 
 /// Places in a context.

@@ -70,6 +70,21 @@ fn a_plan_is_mapped() {
     assert_eq!(Section::TmpExpN.to_string(), "tmpexp_n");
 }
 
+/// With the records of q and f they are 4,096.
+#[test]
+fn the_largest_plan_is_mapped() {
+    let mut pool = pool(&[2]);
+    for id in 0..509 {
+        let leaf = pool.cm(id);
+        pool.expression(leaf, Flags::NONE);
+    }
+    let plan = |cm1| Plan::new(24, 28, cm1, ExpressionId(0));
+    let largest = map(&pool.frames(), &plan(2047)).unwrap();
+    assert_eq!((largest.records.len(), largest.cm_n.len()), (4096, 2047));
+    assert_eq!((largest.cm_dims.len(), largest.exp2pol.len()), (2047, 512));
+    assert_eq!(map(&pool.frames(), &plan(2048)), Err(Refusal::Full));
+}
+
 fn cm(id: u16) -> Reference {
     Reference::new(ReferenceKind::Cm, id)
 }

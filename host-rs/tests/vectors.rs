@@ -1,6 +1,8 @@
 //! The runs of vectors/steps.txt, the original's answers and document 01's refusals: lists decoded, and
 //! written again in the document's encoding.
 
+mod hex;
+
 use enonkasse::{Context, Frames, List, Reference, Refusal, Step};
 use std::fmt::Write;
 
@@ -45,11 +47,6 @@ fn run(text: &str) -> Option<(Vec<String>, Vec<String>)> {
     None
 }
 
-fn decode(line: &str) -> Vec<u8> {
-    let pairs = (0..line.len()).step_by(2).map(|at| &line[at..at + 2]);
-    pairs.map(|pair| u8::from_str_radix(pair, 16).unwrap()).collect()
-}
-
 fn push_reference(bytes: &mut Vec<u8>, reference: &Reference) {
     bytes.push(reference.kind.byte());
     bytes.extend(reference.id.to_be_bytes());
@@ -70,7 +67,7 @@ fn encode(step: &Step) -> String {
 
 fn answer(input: &[String]) -> Result<Vec<String>, Refusal> {
     let mut frames = Frames::new();
-    input.iter().for_each(|line| frames.push(&decode(line)));
+    input.iter().for_each(|line| frames.push(&hex::decode(line)));
     let mut context = Context::new();
     context.serve(&frames)?;
     let steps = context.list().steps(&frames)?;
