@@ -32,7 +32,7 @@ fn listing(input: &str) -> Result<String, Refusal> {
     for step in context.list().steps(&frames)? {
         text += &format!("{}\n", step);
     }
-    Ok(format!("{}{} temporaries\n", text, context.temporary_count()))
+    Ok(format!("{}counter {}\n", text, context.temporary_count()))
 }
 
 fn main() -> ExitCode {
