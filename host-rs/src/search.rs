@@ -1,0 +1,52 @@
+//! The degree search.
+
+use crate::frames::Frames;
+use crate::library::{self, SET_WORDS};
+use crate::pool::ExpressionId;
+use crate::refusal::Refusal;
+
+/// What a search found.
+#[derive(Clone, Debug, PartialEq, Eq, Hash)]
+pub struct Found {
+    /// The expressions to get a column of their own, ascending.
+    pub set: Vec<ExpressionId>,
+    /// The quotient's degree.
+    pub q: u64,
+    /// The calls of the degree rule that it took.
+    pub visits: u64,
+}
+
+/// Searches for the columns that bring the degree of the identities down, in at most `limit` visits.
+///
+/// # Errors
+///
+/// The pool's refusal; 17, 16, 3 of the arguments; 15 and 6 of a visit; 13 and 14 of the end.
+pub fn search(
+    frames: &Frames,
+    identities: &[ExpressionId],
+    n_bits: u8,
+    n_bits_ext: u8,
+    limit: u64,
+) -> Result<Found, Refusal> {
+    let identities: Vec<u64> = identities.iter().map(|expression| expression.0.into()).collect();
+    let bits = [n_bits.into(), n_bits_ext.into()];
+    let (mut chosen, mut found) = ([0; SET_WORDS], [0; 2]);
+    let (frames, identities) = (frames.bytes(), &identities[..]);
+    Refusal::check(library::search(frames, identities, bits, limit, &mut chosen, &mut found))?;
+    let [q, visits] = found;
+    let is_in = |&e: &u16| chosen[usize::from(e / 64)] >> (e % 64) & 1 == 1;
+    let set = (0..64 * SET_WORDS as u16).filter(is_in).map(ExpressionId).collect();
+    Ok(Found { set, q, visits })
+}
+
+#[cfg(test)]
+mod tests {
+    use super::*;
+
+    #[test]
+    fn a_refusal_changes_nothing_lent() {
+        let (mut chosen, mut found) = ([7; SET_WORDS], [8; 2]);
+        let answer = library::search(&[], &[], [3, 3], 10, &mut chosen, &mut found);
+        assert_eq!((answer, chosen, found), (17, [7; SET_WORDS], [8; 2]));
+    }
+}
