@@ -13,8 +13,7 @@ segment, with those of `fixing`, `query_fixing` and `dimensions`.
 Left out are plans that form a cycle (4), which no test of the definitions tells, and records of a section that there is not, which
 are refused (1) where the original leaves them alone.
 """
-import os
-import sys
+from vectors_to_antt import read_vectors, write_or_check
 
 SOURCE = "vectors/plans.txt"
 TARGET = "crates/replay_plans/specs/Vectors"
@@ -94,14 +93,6 @@ WALK_UNFOLDING = UNFOLDING + (
     "treeReference ruleNo isDestination through sourceDim sourceDims largest stepWith noted passed"
 )
 HEAD = ["pu", "pe", "ci", "im", "qs", "q2exp"]
-
-
-def read_vectors(path):
-    for block in open(path, encoding="ascii").read().split("\nvector ")[1:]:
-        lines = [line.strip() for line in block.splitlines() if line.strip() and not line.startswith("#")]
-        name, lines = lines[0], lines[1 : lines.index("end")]
-        middle = lines.index("answers")
-        yield name, lines[:middle], lines[middle + 1 :]
 
 
 def numbers(words):
@@ -233,17 +224,7 @@ def modules():
 
 
 def main():
-    check = sys.argv[1:] == ["--check"]
-    wrong = []
-    for name, text in modules():
-        path = os.path.join(TARGET, name + ".antt")
-        if not check:
-            open(path, "w", encoding="utf-8").write(text)
-        elif not os.path.exists(path) or open(path, encoding="utf-8").read() != text:
-            wrong.append(path)
-    for path in wrong:
-        print(f"{path} is not what {SOURCE} gives")
-    sys.exit(1 if wrong else 0)
+    write_or_check(modules(), SOURCE, TARGET, __doc__)
 
 
 if __name__ == "__main__":

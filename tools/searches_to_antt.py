@@ -9,10 +9,7 @@ Each family of vectors that ask for a search becomes a module with a table and o
 the crate `search_meaning` give the original's set, q and visits, or the document's refusal. So do those that ask for a constraint, all in
 one module, with the definitions of `constraint_meaning`: the intermediates, the constraint's tree, the columns, and both lists.
 """
-import os
-import sys
-
-from vectors_to_antt import bits, chain, command, forest, read_vectors
+from vectors_to_antt import bits, chain, command, forest, read_vectors, write_or_check
 
 SOURCE = "vectors/searches.txt"
 TARGET = "crates/replay_searches/specs/Vectors"
@@ -128,20 +125,7 @@ def modules():
 
 
 def main():
-    check = sys.argv[1:] == ["--check"]
-    if len(sys.argv) > 1 and not check:
-        sys.exit(__doc__)
-    wrong = []
-    for name, text in modules():
-        path = os.path.join(TARGET, name + ".antt")
-        if not check:
-            with open(path, "w", encoding="utf-8") as out:
-                out.write(text)
-        elif not os.path.exists(path) or open(path, encoding="utf-8").read() != text:
-            wrong.append(path)
-    for path in wrong:
-        print(f"{path} is not what {SOURCE} gives")
-    sys.exit(1 if wrong else 0)
+    write_or_check(modules(), SOURCE, TARGET, __doc__)
 
 
 if __name__ == "__main__":

@@ -191,6 +191,24 @@ def read(path):
         return file.read()
 
 
+def write_or_check(modules, source, target, usage):
+    """Write modules, given as names with texts, into a folder; or with --check say which of them do not stand there so."""
+    check = sys.argv[1:] == ["--check"]
+    if len(sys.argv) > 1 and not check:
+        sys.exit(usage)
+    wrong = []
+    for name, text in modules:
+        path = os.path.join(target, name + ".antt")
+        if not check:
+            with open(path, "w", encoding="utf-8") as out:
+                out.write(text)
+        elif read(path) != text:
+            wrong.append(path)
+    for path in wrong:
+        print(f"{path} is not what {source} gives")
+    sys.exit(1 if wrong else 0)
+
+
 def main():
     check = sys.argv[1:] == ["--check"]
     if len(sys.argv) > 1 and not check:

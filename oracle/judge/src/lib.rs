@@ -7,10 +7,13 @@
 //! The program `steps` is compared on whole runs: `printed` says what the original's answer looks
 //! like in its output, `program` asks it, `differ` compares on random inputs and `shrink` makes
 //! smaller what differs; `chosen` thinks up inputs, and `texts`, `runs` and `stored_runs` keep them.
+//!
+//! `command` is what the command lines of this and of other programs do alike.
 
 pub mod answer;
 pub mod case;
 pub mod chosen;
+pub mod command;
 pub mod differ;
 pub mod exhaustive;
 pub mod hex;

@@ -1,6 +1,7 @@
 //! The judge's command line.
 
 use judge::answer::Answer;
+use judge::command::{self, compared, contents, number, print, Done, DIFFERENT};
 use judge::differ::differ;
 use judge::printed::Printed;
 use judge::program::Process;
@@ -11,9 +12,7 @@ use judge::script::{numbered, Script};
 use judge::stored;
 use judge::stored_runs;
 use judge::vectors::{self, Vector};
-use std::env;
-use std::fs;
-use std::io::{self, Read, Write};
+use std::io::{self, Read};
 use std::process::ExitCode;
 
 const HELP: &str = "\
@@ -49,13 +48,12 @@ difference `judge steps` stops, and prints as small an input as it finds that sh
 Exit status: 0; 1 if something differs; 2 if something could not be read or answered.
 ";
 
-const DIFFERENT: u8 = 1;
-const FAILED: u8 = 2;
-
 fn main() -> ExitCode {
-    let words: Vec<String> = env::args().skip(1).collect();
-    let words: Vec<&str> = words.iter().map(String::as_str).collect();
-    let done = match words[..] {
+    command::main("judge", HELP, asked)
+}
+
+fn asked(words: &[&str]) -> Option<Done> {
+    Some(match *words {
         ["run"] | ["run", "-"] => standard_input().and_then(|text| answer("standard input", &text)),
         ["run", file] => contents(file).and_then(|text| answer(file, &text)),
         ["check", file] => contents(file).and_then(|text| check(file, &text)),
@@ -70,17 +68,8 @@ fn main() -> ExitCode {
             contents(file).and_then(|text| check_runs(program, file, &text))
         }
         ["steps-write"] => stored_runs::text().and_then(|text| print(&text)),
-        ["--help"] | ["-h"] | ["help"] => print(HELP),
-        _ => Err(format!("this is how it is asked:\n\n{}", HELP)),
-    };
-    done.unwrap_or_else(|text| {
-        eprintln!("judge: {}", text);
-        ExitCode::from(FAILED)
+        _ => return None,
     })
-}
-
-fn contents(file: &str) -> Result<String, String> {
-    fs::read_to_string(file).map_err(|error| format!("cannot read {}: {}", file, error))
 }
 
 fn standard_input() -> Result<String, String> {
@@ -91,19 +80,12 @@ fn standard_input() -> Result<String, String> {
     }
 }
 
-fn print(text: &str) -> Result<ExitCode, String> {
-    match io::stdout().write_all(text.as_bytes()) {
-        Ok(()) => Ok(ExitCode::SUCCESS),
-        Err(error) => Err(format!("cannot write: {}", error)),
-    }
-}
-
-fn answer(source: &str, text: &str) -> Result<ExitCode, String> {
+fn answer(source: &str, text: &str) -> Done {
     let script = Script::parse(numbered(text)).map_err(|fault| format!("{}, {}", source, fault))?;
     print(&run(&script)?.iter().map(Answer::to_string).collect::<String>())
 }
 
-fn check(file: &str, text: &str) -> Result<ExitCode, String> {
+fn check(file: &str, text: &str) -> Done {
     let vectors = vectors::parse(text).map_err(|fault| format!("{}, {}", file, fault))?;
     if vectors.is_empty() {
         return Err(format!("{} has no vectors", file));
@@ -116,11 +98,10 @@ fn check(file: &str, text: &str) -> Result<ExitCode, String> {
             Err(text) => eprintln!("{}: {}", vector.name, text),
         }
     }
-    print(&format!("generation: {} vectors, {} equal\n", vectors.len(), equal))?;
-    Ok(if equal == vectors.len() { ExitCode::SUCCESS } else { ExitCode::from(DIFFERENT) })
+    compared("generation", "vectors", vectors.len(), equal)
 }
 
-fn random_vectors(seed: &str, count: &str, nodes: Option<&str>) -> Result<ExitCode, String> {
+fn random_vectors(seed: &str, count: &str, nodes: Option<&str>) -> Done {
     let seed = number(seed, "SEED")?;
     let nodes = match nodes {
         Some(word) => Some(number(word, "NODES")? as usize),
@@ -133,7 +114,7 @@ fn random_vectors(seed: &str, count: &str, nodes: Option<&str>) -> Result<ExitCo
     Ok(ExitCode::SUCCESS)
 }
 
-fn compare(program: &str, seed: &str, count: &str) -> Result<ExitCode, String> {
+fn compare(program: &str, seed: &str, count: &str) -> Done {
     let (seed, count) = (number(seed, "SEED")?, number(count, "COUNT")?);
     let (tally, difference) = differ(&Process { path: program }, seed, count)?;
     print(&format!("| {:<28} | {:>10} |\n|---|---|\n{}", "Seed", seed, tally))?;
@@ -147,17 +128,17 @@ fn compare(program: &str, seed: &str, count: &str) -> Result<ExitCode, String> {
     Ok(ExitCode::from(DIFFERENT))
 }
 
-fn one_input(seed: &str, index: &str) -> Result<ExitCode, String> {
+fn one_input(seed: &str, index: &str) -> Done {
     let script = random::whole_run(number(seed, "SEED")?, number(index, "INDEX")?);
     print(&script.frames())
 }
 
-fn printed(source: &str, text: &str) -> Result<ExitCode, String> {
+fn printed(source: &str, text: &str) -> Done {
     let script = Script::from_frames(text).map_err(|fault| format!("{}, {}", source, fault))?;
     print(&Printed::of(&script)?.to_string())
 }
 
-fn check_runs(program: &str, file: &str, text: &str) -> Result<ExitCode, String> {
+fn check_runs(program: &str, file: &str, text: &str) -> Done {
     let runs = runs::parse(text).map_err(|fault| format!("{}, {}", file, fault))?;
     if runs.is_empty() {
         return Err(format!("{} has no runs", file));
@@ -169,10 +150,5 @@ fn check_runs(program: &str, file: &str, text: &str) -> Result<ExitCode, String>
             Some(difference) => eprintln!("{}: {}", run.name, difference),
         }
     }
-    print(&format!("steps: {} runs, {} equal\n", runs.len(), equal))?;
-    Ok(if equal == runs.len() { ExitCode::SUCCESS } else { ExitCode::from(DIFFERENT) })
-}
-
-fn number(word: &str, name: &str) -> Result<u64, String> {
-    word.parse().map_err(|_| format!("{} is a number, not {:?}", name, word))
+    compared("steps", "runs", runs.len(), equal)
 }

@@ -10,6 +10,7 @@
 //! `@`, those of its other fields that are not 0: `d` dimension, `p`, `t` tree_pos, `e` exp_id. A
 //! step byte that document 01 does not know is `step` with its two digits.
 
+use asked::text::number;
 use judge::answer::StepBytes;
 use judge::hex::Reader;
 use judge::kinds::{self, Kind};
@@ -251,10 +252,6 @@ fn reference(word: &str) -> Result<Reference, String> {
         *place = number(&field[1..])?;
     }
     Ok(reference)
-}
-
-pub fn number<T: std::str::FromStr>(word: &str) -> Result<T, String> {
-    word.parse().map_err(|_| format!("{:?} is no number that fits here", word))
 }
 
 impl fmt::Display for Reference {

@@ -1,5 +1,6 @@
 //! What `map` answers, as plain numbers.
 
+use asked::text::listed;
 use original::starkinfo::StarkInfo;
 use original::starkinfo_codegen::{Index, PolType};
 use original::types::PIL;
@@ -141,15 +142,6 @@ fn check_derived(info: &StarkInfo, records: &[Record], bits: (u8, u8)) -> Result
         return Ok(());
     }
     Err("members, q_2ns, f_2ns or map_deg do not follow from records and bits".to_string())
-}
-
-/// Numbers, or `-` where there are none.
-pub fn listed<T: Display>(items: impl IntoIterator<Item = T>) -> String {
-    let items: Vec<String> = items.into_iter().map(|item| item.to_string()).collect();
-    if items.is_empty() {
-        return "-".to_string();
-    }
-    items.join(" ")
 }
 
 impl Display for Record {

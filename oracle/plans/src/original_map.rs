@@ -5,6 +5,7 @@ use crate::input::Input;
 use crate::mapped::Mapped;
 use crate::plan::{Plan, Ratio};
 use crate::refusals::NO_DIMENSION;
+use asked::question::Refused;
 use judge::pool::Pool;
 use judge::run::{pil, text_of};
 use original::starkinfo::{Program, StarkInfo, PCCTX};
@@ -104,12 +105,4 @@ pub fn expected(input: &Input) -> Result<(Pool, Plan, Mapped), Refused> {
         (true, true) => Err(Refused::With(NO_DIMENSION)),
         _ => Err(Refused::Not("the original's dimensions are not as foreseen".to_string())),
     }
-}
-
-/// Why there is no answer.
-#[derive(Clone, Debug, PartialEq, Eq)]
-pub enum Refused {
-    With(u8),
-    /// The original did what document 01 has no word for.
-    Not(String),
 }

@@ -1,12 +1,15 @@
-//! Questions and answers. Whatever is compared with the original answers the same questions: a
-//! function from a question to its answer is all that a comparison needs.
+//! What is asked and answered.
 
 use crate::input::Input;
 use crate::lists::Segment;
-use crate::mapped::{listed, Mapped, Record};
-use crate::original_map::{ask_exp_dims, expected, Panic, Refused};
+use crate::mapped::{Mapped, Record};
+use crate::original_map::{ask_exp_dims, expected, Panic};
 use crate::sections::{ask_sections, Placed};
+use crate::tally::Counts;
+use crate::text::Said;
 use crate::walks::{ask_walk, Walk};
+use asked::question::Refused;
+use asked::text::listed;
 use std::fmt;
 
 #[derive(Clone, Debug, PartialEq, Eq)]
@@ -50,11 +53,7 @@ impl Question {
 /// The answer of document 01: the original's, or a refusal. Fails where the original did what the
 /// document has no word for. Call it on a large stack.
 pub fn ask(question: &Question) -> Result<Answer, String> {
-    match answer(question) {
-        Ok(answer) => Ok(answer),
-        Err(Refused::With(number)) => Ok(Answer::Refused(number)),
-        Err(Refused::Not(text)) => Err(text),
-    }
+    answer(question).or_else(|refused| refused.number().map(Answer::Refused))
 }
 
 fn answer(question: &Question) -> Result<Answer, Refused> {
@@ -73,6 +72,34 @@ fn answer(question: &Question) -> Result<Answer, Refused> {
         }
         Question::Sections(records) => {
             ask_sections(records).map(Box::new).map(Answer::Placed).map_err(unforeseen)
+        }
+    }
+}
+
+impl asked::question::Question for Question {
+    type Lines = Said;
+    type Answer = Answer;
+
+    fn ask(&self) -> Result<Answer, String> {
+        ask(self)
+    }
+}
+
+impl asked::question::Answer for Answer {
+    type Counts = Counts;
+
+    fn refusal(&self) -> Option<u8> {
+        match self {
+            Answer::Refused(number) => Some(*number),
+            _ => None,
+        }
+    }
+
+    fn count_in(&self, counts: &mut Counts) {
+        match self {
+            Answer::Mapped(mapped) => counts.count_records(mapped.records.len()),
+            Answer::Segment(segment) => counts.count_steps(segment.steps().count()),
+            Answer::Refused(_) | Answer::ExpDims(_) | Answer::Placed(_) => {}
         }
     }
 }

@@ -1,7 +1,8 @@
 //! `map_section` alone, on records lent with any sections, dimensions and positions.
 
-use crate::mapped::{listed, section_name, Record, Widths, F_2NS};
+use crate::mapped::{section_name, Record, Widths, F_2NS};
 use crate::original_map::{caught, Panic};
+use asked::text::listed;
 use judge::case::{cm, Case};
 use judge::pool::Flags;
 use judge::run::pil;

@@ -2,11 +2,11 @@
 
 use crate::edges;
 use crate::list_edges;
-use crate::question::{ask, Question};
 use crate::shapes;
 use crate::surprises;
 use crate::tally::{questions, Labelled};
-use crate::vectors::{Case, Vector};
+use crate::vectors::Case;
+use asked::vectors::{answered, is_short};
 
 /// The seed of the stored random questions, and of how many inputs they are.
 pub const SEED: u64 = 1;
@@ -92,16 +92,12 @@ fn random() -> Result<Vec<Case>, String> {
         let other = asked.swap_remove(1 + index as usize % (asked.len() - 1));
         let map = asked.swap_remove(0);
         for labelled in [map, other] {
-            if length(&labelled.question)? <= LONGEST {
+            if is_short(&labelled.question, LONGEST)? {
                 cases.push(named(index, labelled));
             }
         }
     }
     Ok(cases)
-}
-
-fn length(question: &Question) -> Result<usize, String> {
-    Ok(question.to_string().len().max(ask(question)?.to_string().len()))
 }
 
 fn named(index: u64, Labelled { label, question }: Labelled) -> Case {
@@ -111,7 +107,6 @@ fn named(index: u64, Labelled { label, question }: Labelled) -> Case {
 
 /// The whole file. Call it on a large stack.
 pub fn text() -> Result<String, String> {
-    let mut text = HEADER.to_string();
     let chosen = [
         surprises::documents(),
         surprises::surprises(),
@@ -119,49 +114,34 @@ pub fn text() -> Result<String, String> {
         list_edges::edges(),
         shapes::shapes(),
     ];
-    for case in chosen.concat().into_iter().chain(random()?) {
-        text.push('\n');
-        text.push_str(&Vector::of(case)?.to_string());
-    }
-    Ok(text)
+    let cases = chosen.concat().into_iter().chain(random()?);
+    Ok(HEADER.to_string() + &answered(cases)?)
 }
 
 #[cfg(test)]
 mod tests {
     use super::*;
-    use crate::vectors;
-    use judge::run::on_large_stack;
+    use crate::question::Question;
+    use asked::checks;
 
     const STORED: &str = concat!(env!("CARGO_MANIFEST_DIR"), "/../../vectors/plans.txt");
     const MOST_BYTES: usize = 600_000;
 
     #[test]
     fn the_stored_file_is_what_is_written() {
-        let stored = std::fs::read_to_string(STORED).expect("the stored vectors");
-        let written = on_large_stack(text).unwrap();
-        assert!(written == stored, "{} is not what `plans write` gives", STORED);
-        assert!(stored.len() < MOST_BYTES, "{} bytes", stored.len());
+        checks::is_what_is_written(STORED, text, MOST_BYTES);
     }
 
     /// The others that the notes have, m23 and m25, are tests.
     #[test]
     fn every_surprise_has_its_vectors() {
-        let vectors = vectors::parse(&on_large_stack(text).unwrap()).unwrap();
-        for number in [1, 2, 3, 4, 5, 6, 7, 8, 9, 10, 11, 12, 13, 14, 16, 18, 21, 22] {
-            let head = format!("m{:02}-", number);
-            assert!(vectors.iter().any(|vector| vector.case.name.starts_with(&head)), "{}", head);
-        }
+        let numbers = [1, 2, 3, 4, 5, 6, 7, 8, 9, 10, 11, 12, 13, 14, 16, 18, 21, 22];
+        let heads = numbers.iter().map(|number| format!("m{:02}-", number));
+        checks::has_names::<Question>(text, heads);
     }
 
     #[test]
     fn vectors_are_read_as_they_were_written() {
-        let written = on_large_stack(text).unwrap();
-        let said = |text: &str| -> Vec<String> {
-            let says = |line: &&str| !line.is_empty() && !line.starts_with('#');
-            text.lines().filter(says).map(str::to_string).collect()
-        };
-        let read: String =
-            vectors::parse(&written).unwrap().iter().map(|vector| vector.to_string()).collect();
-        assert_eq!(said(&read), said(&written));
+        checks::is_read_as_written::<Question>(text);
     }
 }

@@ -6,40 +6,37 @@ use crate::random;
 use crate::random_lists;
 use crate::walks::Walk;
 use judge::random::Random;
-use judge::run::on_large_stack;
-use std::collections::{BTreeMap, BTreeSet};
 use std::fmt;
 
-/// A question and the row of the table that it is counted in.
-#[derive(Clone, Debug)]
-pub struct Labelled {
-    pub label: String,
-    pub question: Question,
-}
+pub use asked::tally::compare;
+pub type Labelled = asked::tally::Labelled<Question>;
+pub type Questions = asked::tally::Questions<Question>;
+pub type Said = asked::tally::Said<Answer>;
+pub type Tally = asked::tally::Tally<Counts>;
 
 /// The questions of this seed and index. Call it on a large stack.
-pub fn questions(seed: u64, index: u64) -> Result<Vec<Labelled>, String> {
+pub fn questions(seed: u64, index: u64) -> Questions {
     let random = &mut Random::new(seed, index);
     let input = random::input(random);
     questions_on(random, input)
 }
 
 /// Questions that are all on one input, but for the sections.
-pub fn questions_on(random: &mut Random, input: Input) -> Result<Vec<Labelled>, String> {
+pub fn questions_on(random: &mut Random, input: Input) -> Questions {
     let mut questions = vec![
-        labelled("map", Question::Map(input.clone())),
-        labelled("sections", Question::Sections(random_lists::records(random))),
+        Labelled::new("map", Question::Map(input.clone())),
+        Labelled::new("sections", Question::Sections(random_lists::records(random))),
     ];
     let is_accepted = !matches!(ask(&questions[0].question)?, Answer::Refused(_));
     match input.admitted() {
         Ok((pool, plan)) if is_accepted => {
-            questions.push(labelled("exp_dims", Question::ExpDims(input.clone())));
+            questions.push(Labelled::new("exp_dims", Question::ExpDims(input.clone())));
             let generated = random_lists::generated(random, &pool)?;
             for walk in Walk::ALL {
                 let any = random_lists::any(random, &pool, &plan, walk);
                 for (made, segment) in [("generated", generated.clone()), ("any", any)] {
                     let question = Question::Walk(input.clone(), walk, segment);
-                    questions.push(labelled(&format!("{}, {}", walk.name(), made), question));
+                    questions.push(Labelled::new(&format!("{}, {}", walk.name(), made), question));
                 }
             }
         }
@@ -48,127 +45,38 @@ pub fn questions_on(random: &mut Random, input: Input) -> Result<Vec<Labelled>, 
     Ok(questions)
 }
 
-fn labelled(label: &str, question: Question) -> Labelled {
-    Labelled { label: label.to_string(), question }
-}
-
 fn on_a_refused_plan(random: &mut Random, input: Input) -> Labelled {
     let walk = random.pick(&Walk::ALL);
-    labelled("any walk, plan refused", Question::Walk(input, walk, Default::default()))
+    Labelled::new("any walk, plan refused", Question::Walk(input, walk, Default::default()))
 }
 
-/// Answers by row: how many were accepted (under 0), and how many refused with each number.
+/// Of an accepted plan the most records, and of accepted lists all steps and the most.
 #[derive(Clone, Debug, Default, PartialEq, Eq)]
-pub struct Tally {
-    rows: BTreeMap<String, BTreeMap<u8, u64>>,
-    /// Of an accepted plan.
+pub struct Counts {
     most_records: usize,
-    /// Of accepted lists.
     steps: usize,
     most_steps: usize,
 }
 
-const ACCEPTED: u8 = 0;
-
-impl Tally {
-    fn count(&mut self, label: &str, answer: &Answer) {
-        let mut number = ACCEPTED;
-        match answer {
-            Answer::Refused(refusal) => number = *refusal,
-            Answer::Mapped(mapped) => {
-                self.most_records = self.most_records.max(mapped.records.len());
-            }
-            Answer::Segment(segment) => {
-                let steps = segment.steps().count();
-                self.steps += steps;
-                self.most_steps = self.most_steps.max(steps);
-            }
-            Answer::ExpDims(_) | Answer::Placed(_) => {}
-        }
-        *self.rows.entry(label.to_string()).or_default().entry(number).or_default() += 1;
+impl Counts {
+    pub fn count_records(&mut self, records: usize) {
+        self.most_records = self.most_records.max(records);
     }
 
-    /// How many questions of a row were refused with a number.
-    pub fn refused(&self, label: &str, number: u8) -> u64 {
-        self.rows.get(label).and_then(|row| row.get(&number)).copied().unwrap_or(0)
-    }
-
-    pub fn accepted(&self, label: &str) -> u64 {
-        self.refused(label, ACCEPTED)
+    pub fn count_steps(&mut self, steps: usize) {
+        self.steps += steps;
+        self.most_steps = self.most_steps.max(steps);
     }
 }
 
 /// Asks the questions of so many indices.
 pub fn tally(seed: u64, count: u64) -> Result<Tally, String> {
-    each(seed, count, questions, |_, _| Ok(true)).map(|(tally, _)| tally)
+    asked::tally::tally(seed, count, questions)
 }
 
-/// What is compared says to a question: its answer, or none where it is not to be asked; or what else
-/// is wrong with it.
-pub type Said = Result<Option<Answer>, String>;
-
-/// Asks the same of the original and of something else, up to the first difference. What is not asked
-/// is not counted.
-pub fn compare(
-    seed: u64,
-    count: u64,
-    questions: impl Fn(u64, u64) -> Result<Vec<Labelled>, String> + Sync,
-    port: impl Fn(&Question) -> Said + Sync,
-) -> Result<(Tally, Option<String>), String> {
-    each(seed, count, questions, |question, answer| {
-        let given = port(question).map_err(|text| format!("{}{}", question, text))?;
-        match given {
-            Some(given) if given != *answer => {
-                Err(format!("{}expected is\n{}and given\n{}", question, answer, given))
-            }
-            given => Ok(given.is_some()),
-        }
-    })
-}
-
-/// Shows each question with its answer, up to the first where there is something to tell, and counts
-/// those that are to be counted.
-fn each(
-    seed: u64,
-    count: u64,
-    questions: impl Fn(u64, u64) -> Result<Vec<Labelled>, String> + Sync,
-    told: impl Fn(&Question, &Answer) -> Result<bool, String> + Sync,
-) -> Result<(Tally, Option<String>), String> {
-    on_large_stack(|| {
-        let mut tally = Tally::default();
-        for index in 0..count {
-            let place = |text: String| format!("input {} of seed {}: {}", index, seed, text);
-            for Labelled { label, question } in questions(seed, index).map_err(place)? {
-                let answer =
-                    ask(&question).map_err(|text| place(format!("{}\n{}", text, question)))?;
-                match told(&question, &answer) {
-                    Ok(true) => tally.count(&label, &answer),
-                    Ok(false) => {}
-                    Err(text) => return Ok((tally, Some(place(text)))),
-                }
-            }
-        }
-        Ok((tally, None))
-    })
-}
-
-impl fmt::Display for Tally {
+impl fmt::Display for Counts {
     fn fmt(&self, f: &mut fmt::Formatter<'_>) -> fmt::Result {
-        let numbers: BTreeSet<u8> =
-            self.rows.values().flat_map(|row| row.keys().copied()).collect();
-        let numbers: Vec<u8> = numbers.into_iter().filter(|&number| number != ACCEPTED).collect();
-        write!(f, "| {:<24} | {:>8} | {:>8} |", "Asked", "Runs", "Accepted")?;
-        numbers.iter().try_for_each(|number| write!(f, " {:>6} |", number))?;
-        writeln!(f, "\n|---|---|---|{}", "---|".repeat(numbers.len()))?;
-        for (label, row) in &self.rows {
-            let runs: u64 = row.values().sum();
-            write!(f, "| {:<24} | {:>8} | {:>8} |", label, runs, self.accepted(label))?;
-            for &number in &numbers {
-                write!(f, " {:>6} |", self.refused(label, number))?;
-            }
-            writeln!(f)?;
-        }
-        writeln!(f, "\nMost records of a plan: {}", self.most_records)?;
+        writeln!(f, "Most records of a plan: {}", self.most_records)?;
         writeln!(
             f,
             "Steps of accepted lists: {}, most in a segment: {}",
@@ -184,6 +92,7 @@ mod tests {
     use crate::mapped::Mapped;
     use crate::refusals::*;
     use crate::walks::Domain;
+    use asked::checks;
 
     const SEED: u64 = 3;
     const COUNT: u64 = 500;
@@ -220,14 +129,8 @@ mod tests {
         assert_eq!(Ok(compared), tally(SEED, 50));
     }
 
-    /// Whether a comparison finds the original, changed in what it answers.
     fn finds(change: impl Fn(&mut Answer) + Sync) -> bool {
-        let changed = |question: &Question| {
-            let mut answer = original(question);
-            change(&mut answer);
-            Ok(Some(answer))
-        };
-        compare(SEED, COUNT, questions, changed).unwrap().1.is_some()
+        checks::finds(SEED, COUNT, questions, change)
     }
 
     #[test]
@@ -304,12 +207,6 @@ mod tests {
 
     #[test]
     fn questions_depend_on_seed_and_index_only() {
-        let text = |seed, index| -> String {
-            let asked = on_large_stack(|| questions(seed, index)).unwrap();
-            asked.iter().map(|labelled| labelled.question.to_string()).collect()
-        };
-        assert_eq!(text(7, 3), text(7, 3));
-        assert_ne!(text(7, 3), text(7, 4));
-        assert_ne!(text(7, 3), text(8, 3));
+        checks::depend_on_seed_and_index_only(questions);
     }
 }

@@ -1,45 +1,39 @@
 //! Questions as text, and the text read again. The head of vectors/plans.txt says how it is written.
 
 use crate::input::{Draft, Input};
-use crate::lists::{number, Segment};
+use crate::lists::Segment;
 use crate::mapped::Record;
 use crate::plan::{Intermediate, Plan, Pu, Ratio};
 use crate::question::Question;
 use crate::walks::Walk;
+use asked::question::Lines;
+use asked::text::{many, numbers};
 use judge::hex::{self, Reader};
 use judge::pool::{Expression, Node, EXPRESSION_FRAME, NODE_FRAME};
-use judge::script::{Line, TextFault};
 use std::fmt;
 
 /// What the lines of a question have said so far.
 #[derive(Default)]
-struct Said<'a> {
+pub struct Said {
     pool: Draft,
     plan: Plan,
     /// The plan's bytes, where they are said instead.
     bytes: Option<Vec<u8>>,
-    ask: Option<&'a str>,
+    ask: Option<String>,
     segment: Segment,
     records: Vec<Record>,
 }
 
-/// Reads a question; a fault outside of its lines is put on line `start`.
-pub fn parse(lines: &[Line<'_>], start: usize) -> Result<Question, TextFault> {
-    let mut said = Said::default();
-    for &(line, text) in lines {
-        said.take(text).map_err(|text| TextFault { line, text })?;
-    }
-    said.question().map_err(|text| TextFault { line: start, text })
-}
+impl Lines for Said {
+    type Question = Question;
 
-impl<'a> Said<'a> {
-    fn take(&mut self, line: &'a str) -> Result<(), String> {
+    fn take(&mut self, line: &str) -> Result<(), String> {
         if self.segment.take_line(line)? {
             return Ok(());
         }
         let (head, rest) = line.split_once(' ').unwrap_or((line, ""));
         match head {
-            "ask" => self.ask = Some(rest),
+            "ask" => self.ask = Some(rest.to_string()),
             "plan" => self.bytes = Some(hex::decode(rest)?),
             "record" => self.records.push(record(rest)?),
             _ if take_of_plan(&mut self.plan, head, rest)? => {}
@@ -48,20 +42,10 @@ impl<'a> Said<'a> {
         Ok(())
     }
 
-    fn take_frame(&mut self, bytes: &[u8]) -> Result<(), String> {
-        let mut reader = Reader::new(bytes);
-        match reader.u8()? {
-            NODE_FRAME => self.pool.nodes.push(Node::read(reader)?),
-            EXPRESSION_FRAME => self.pool.expressions.push(Expression::read(reader)?),
-            other => return Err(format!("no frame begins with {:02x}", other)),
-        }
-        Ok(())
-    }
-
     fn question(self) -> Result<Question, String> {
         let plan = self.bytes.unwrap_or_else(|| self.plan.bytes());
         let input = Input { pool: self.pool, plan };
-        match self.ask {
+        match self.ask.as_deref() {
             Some("map") => Ok(Question::Map(input)),
             Some("exp_dims") => Ok(Question::ExpDims(input)),
             Some("sections") => Ok(Question::Sections(self.records)),
@@ -71,6 +55,18 @@ impl<'a> Said<'a> {
             },
             None => Err("this asks nothing".to_string()),
         }
+    }
+}
+
+impl Said {
+    fn take_frame(&mut self, bytes: &[u8]) -> Result<(), String> {
+        let mut reader = Reader::new(bytes);
+        match reader.u8()? {
+            NODE_FRAME => self.pool.nodes.push(Node::read(reader)?),
+            EXPRESSION_FRAME => self.pool.expressions.push(Expression::read(reader)?),
+            other => return Err(format!("no frame begins with {:02x}", other)),
+        }
+        Ok(())
     }
 }
 
@@ -105,15 +101,6 @@ fn ratio(rest: &str) -> Result<Ratio, String> {
 fn record(rest: &str) -> Result<Record, String> {
     let [section, dimension, position] = numbers(rest)?;
     Ok(Record { section, dimension, position })
-}
-
-fn many<T: std::str::FromStr>(rest: &str) -> Result<Vec<T>, String> {
-    rest.split(' ').map(number).collect()
-}
-
-fn numbers<T: std::str::FromStr, const N: usize>(rest: &str) -> Result<[T; N], String> {
-    let numbers = many(rest)?;
-    numbers.try_into().map_err(|_| format!("{} numbers come here", N))
 }
 
 struct PlanLines<'a>(&'a Plan);

@@ -1,95 +1,19 @@
 //! Vectors: questions stored with their answers.
 
-use crate::question::{ask, Question};
-use crate::text;
-use judge::script::{numbered, TextFault};
-use std::collections::HashSet;
-use std::fmt;
+use crate::question::Question;
+use judge::script::TextFault;
 
-/// A question with its name and, where the name does not say it, what it shows.
-#[derive(Clone, Debug)]
-pub struct Case {
-    pub name: String,
-    pub note: Option<String>,
-    pub question: Question,
-}
+pub type Case = asked::vectors::Case<Question>;
+pub type Vector = asked::vectors::Vector<Question>;
 
-impl Case {
-    pub fn new(name: &str, question: Question) -> Case {
-        Case { name: name.to_string(), note: None, question }
-    }
-
-    pub fn note(self, note: &str) -> Case {
-        Case { note: Some(note.to_string()), ..self }
-    }
-}
-
-#[derive(Clone, Debug)]
-pub struct Vector {
-    pub case: Case,
-    pub answer: String,
-}
-
-impl Vector {
-    pub fn of(case: Case) -> Result<Vector, String> {
-        let answer = ask(&case.question).map_err(|text| format!("{}: {}", case.name, text))?;
-        Ok(Vector { case, answer: answer.to_string() })
-    }
-
-    /// Both answers, where the one given now is another than the stored one.
-    pub fn difference(&self) -> Result<Option<String>, String> {
-        let given = ask(&self.case.question)?.to_string();
-        if given == self.answer {
-            return Ok(None);
-        }
-        Ok(Some(format!("stored is\n{}and the original says\n{}", self.answer, given)))
-    }
-}
-
-impl fmt::Display for Vector {
-    fn fmt(&self, f: &mut fmt::Formatter<'_>) -> fmt::Result {
-        if let Some(note) = &self.case.note {
-            writeln!(f, "# {}", note)?;
-        }
-        let Case { name, question, .. } = &self.case;
-        writeln!(f, "vector {}\n{}answers\n{}end", name, question, self.answer)
-    }
-}
-
-/// Reads a list of vectors. Notes are comments and are not read.
 pub fn parse(text: &str) -> Result<Vec<Vector>, TextFault> {
-    let mut names = HashSet::new();
-    let lines: Vec<_> = numbered(text).collect();
-    let mut rest = &lines[..];
-    let mut vectors = Vec::new();
-    while let Some(&(line, head)) = rest.first() {
-        let fault = |text: String| TextFault { line, text };
-        let name = head
-            .strip_prefix("vector ")
-            .ok_or_else(|| fault(format!("`vector NAME` comes here, not {:?}", head)))?;
-        if !names.insert(name) {
-            return Err(fault(format!("there are two vectors {}", name)));
-        }
-        let place = |stop: &str| {
-            let place = rest.iter().position(|&(_, text)| text == stop);
-            place.ok_or_else(|| fault(format!("this vector has no line `{}`", stop)))
-        };
-        let (answers, end) = (place("answers")?, place("end")?);
-        if end < answers {
-            return Err(fault("this vector has no line `answers`".to_string()));
-        }
-        let question = text::parse(&rest[1..answers], line)?;
-        let answer = rest[answers + 1..end].iter().map(|(_, text)| format!("{}\n", text)).collect();
-        vectors.push(Vector { case: Case::new(name, question), answer });
-        rest = &rest[end + 1..];
-    }
-    Ok(vectors)
+    asked::vectors::parse(text)
 }
 
 #[cfg(test)]
 mod tests {
     use super::*;
-    use judge::run::on_large_stack;
+    use asked::checks::{are_faults, difference};
 
     const ONE: &str = "\
 vector one
@@ -103,37 +27,23 @@ n3 0 0 0 0 0 0 0 0 0 0 0
 end
 ";
 
-    fn difference(text: &str) -> Option<String> {
-        let vectors = parse(text).unwrap();
-        on_large_stack(|| vectors[0].difference()).unwrap()
-    }
-
     #[test]
     fn a_wrong_answer_is_shown() {
-        assert_eq!(difference(ONE), None);
-        let text = difference(&ONE.replace("positions 0", "positions 5")).unwrap();
+        assert_eq!(difference::<Question>(ONE), None);
+        let text = difference::<Question>(&ONE.replace("positions 0", "positions 5")).unwrap();
         assert!(text.starts_with("stored is\npositions 5\n"), "{}", text);
-        assert!(difference(&ONE.replace("positions 0\n", "")).is_some());
-        assert!(difference(&ONE.replace("record 0 2 5", "record 0 3 5")).is_some());
+        assert!(difference::<Question>(&ONE.replace("positions 0\n", "")).is_some());
+        assert!(difference::<Question>(&ONE.replace("record 0 2 5", "record 0 3 5")).is_some());
     }
 
     #[test]
-    fn malformed_lists_are_named_by_line() {
-        let fault = |text: &str| parse(text).expect_err(text).to_string();
-        let cases = [
-            ("ask map\n", "line 1: `vector NAME` comes here, not \"ask map\""),
-            ("vector a\nask map\n", "line 1: this vector has no line `answers`"),
-            ("vector a\nend\nanswers\n", "line 1: this vector has no line `answers`"),
-            ("vector a\nanswers\n", "line 1: this vector has no line `end`"),
+    fn malformed_questions_are_named_by_line() {
+        are_faults::<Question>(&[
             ("vector a\nanswers\nend\n", "line 1: this asks nothing"),
             ("vector a\nask mop\nanswers\nend\n", "line 1: nothing is asked by \"mop\""),
             ("vector a\nbits 1\nanswers\nend\n", "line 2: 2 numbers come here"),
             ("vector a\nbits 1 256\nanswers\nend\n", "line 2: \"256\" is no number that fits here"),
             ("vector a\n03\nanswers\nend\n", "line 2: no frame begins with 03"),
-        ];
-        for (text, expected) in cases {
-            assert_eq!(fault(text), expected);
-        }
-        assert_eq!(fault(&ONE.repeat(2)), "line 10: there are two vectors one");
+        ]);
     }
 }

@@ -3,9 +3,10 @@
 
 use crate::lists::{Reference, Segment, Step};
 use crate::mapped::Mapped;
-use crate::original_map::{caught, run_map, Panic, Refused};
+use crate::original_map::{caught, run_map, Panic};
 use crate::plan::Plan;
 use crate::refusals::{FULL, NOT_THERE, NO_DIMENSION, NO_RULE};
+use asked::question::Refused;
 use judge::kinds::Kind;
 use judge::pool::Pool;
 use original::starkinfo::Program;

@@ -1,9 +1,10 @@
 //! `generate_constraint_polynomial` as a whole, asked of the original.
 
 use crate::contexts;
-use crate::question::{listed, Refused};
 use crate::refusals::{COUNTS, DOUBLE_PRIME, FULL};
 use crate::search::{ask_search, caught, Found, Search};
+use asked::question::Refused;
+use asked::text::listed;
 use judge::answer::{State, StepBytes};
 use judge::hex;
 use judge::kinds::Kind;

@@ -1,8 +1,11 @@
-//! Questions and answers. Whatever is compared with the original answers the same questions: a
-//! function from a question to its answer is all that a comparison needs.
+//! What is asked and answered.
 
 use crate::constraint::{ask_constraint, Constraint, Made};
 use crate::search::{ask_search, Found, Search};
+use crate::tally::Counts;
+use crate::text::Said;
+use asked::question::Refused;
+use asked::text::listed;
 use std::fmt;
 
 #[derive(Clone, Debug, PartialEq, Eq)]
@@ -16,14 +19,6 @@ pub enum Answer {
     Refused(u8),
     Found(Found),
     Made(Box<Made>),
-}
-
-/// Why there is no answer.
-#[derive(Clone, Debug, PartialEq, Eq)]
-pub enum Refused {
-    With(u8),
-    /// The original did what document 01 has no word for.
-    Not(String),
 }
 
 impl Question {
@@ -55,24 +50,43 @@ impl Question {
 /// The answer of document 01: the original's, or a refusal. Fails where the original did what the
 /// document has no word for. Call it on a large stack.
 pub fn ask(question: &Question) -> Result<Answer, String> {
-    let answer = match question {
+    answer(question).or_else(|refused| refused.number().map(Answer::Refused))
+}
+
+fn answer(question: &Question) -> Result<Answer, Refused> {
+    match question {
         Question::Search(search) => ask_search(search).map(Answer::Found),
         Question::Constraint(constraint) => {
             ask_constraint(constraint).map(Box::new).map(Answer::Made)
         }
-    };
-    match answer {
-        Ok(answer) => Ok(answer),
-        Err(Refused::With(number)) => Ok(Answer::Refused(number)),
-        Err(Refused::Not(text)) => Err(text),
     }
 }
 
-/// The numbers, or a dash for none.
-pub fn listed<T: fmt::Display>(items: &[T]) -> String {
-    match items {
-        [] => "-".to_string(),
-        _ => items.iter().map(T::to_string).collect::<Vec<_>>().join(" "),
+impl asked::question::Question for Question {
+    type Lines = Said;
+    type Answer = Answer;
+
+    fn ask(&self) -> Result<Answer, String> {
+        ask(self)
+    }
+}
+
+impl asked::question::Answer for Answer {
+    type Counts = Counts;
+
+    fn refusal(&self) -> Option<u8> {
+        match self {
+            Answer::Refused(number) => Some(*number),
+            _ => None,
+        }
+    }
+
+    fn count_in(&self, counts: &mut Counts) {
+        match self {
+            Answer::Refused(_) => {}
+            Answer::Found(found) => counts.count(found),
+            Answer::Made(made) => counts.count(&made.found),
+        }
     }
 }
 

@@ -1,8 +1,8 @@
 //! The degree search, asked of the original twice: its own whole run, and the degree rule with its
 //! visits counted, put into the original's loop here. The two must not contradict each other.
 
-use crate::question::Refused;
 use crate::refusals::{BITS, KIND, NOT_THERE, NO_IDENTITY, NO_QUOTIENT, NO_SET, VISITS};
+use asked::question::Refused;
 use judge::pool::Pool;
 use judge::run::{pil, text_of};
 use original::counted::calculate_im_pols;

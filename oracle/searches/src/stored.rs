@@ -1,10 +1,11 @@
 //! The stored list of vectors: what is in it, and its header.
 
 use crate::edges;
-use crate::question::{ask, Question};
+use crate::question::Question;
 use crate::random;
 use crate::surprises;
-use crate::vectors::{Case, Vector};
+use crate::vectors::Case;
+use asked::vectors::{answered, is_short};
 
 /// The seed of the stored random questions, and how many of each kind there are.
 pub const SEED: u64 = 1;
@@ -76,17 +77,6 @@ fn random(seed: u64, searches: u64, constraints: u64) -> Vec<Case> {
     (0..searches).map(search).chain((0..constraints).map(constraint)).collect()
 }
 
-fn is_short(case: &Case) -> Result<bool, String> {
-    let answer = ask(&case.question)?.to_string();
-    Ok(case.question.to_string().len().max(answer.len()) <= LONGEST)
-}
-
-/// The text of these questions with their answers, each after an empty line.
-fn answered(cases: Vec<Case>) -> Result<String, String> {
-    let vectors: Result<Vec<Vector>, String> = cases.into_iter().map(Vector::of).collect();
-    Ok(vectors?.iter().map(|vector| format!("\n{}", vector)).collect())
-}
-
 /// So many random searches with their answers, and a quarter as many constraints. Call it on a large stack.
 pub fn random_text(seed: u64, count: u64) -> Result<String, String> {
     answered(random(seed, count, count / 4))
@@ -96,7 +86,7 @@ pub fn random_text(seed: u64, count: u64) -> Result<String, String> {
 pub fn text() -> Result<String, String> {
     let mut cases = [surprises::documents(), surprises::surprises(), edges::edges()].concat();
     for case in random(SEED, COUNT, CONSTRAINTS) {
-        if is_short(&case)? {
+        if is_short(&case.question, LONGEST)? {
             cases.push(case);
         }
     }
@@ -106,38 +96,25 @@ pub fn text() -> Result<String, String> {
 #[cfg(test)]
 mod tests {
     use super::*;
-    use crate::vectors;
-    use judge::run::on_large_stack;
+    use asked::checks;
 
     const STORED: &str = concat!(env!("CARGO_MANIFEST_DIR"), "/../../vectors/searches.txt");
     const MOST_BYTES: usize = 400_000;
 
     #[test]
     fn the_stored_file_is_what_is_written() {
-        let stored = std::fs::read_to_string(STORED).expect("the stored vectors");
-        let written = on_large_stack(text).unwrap();
-        assert!(written == stored, "{} is not what `searches make` gives", STORED);
-        assert!(stored.len() < MOST_BYTES, "{} bytes", stored.len());
+        checks::is_what_is_written(STORED, text, MOST_BYTES);
     }
 
     #[test]
     fn every_surprise_has_its_vectors() {
-        let vectors = vectors::parse(&on_large_stack(text).unwrap()).unwrap();
-        for number in [1, 2, 3, 4, 5, 6, 8, 9, 10, 11, 12, 14, 15, 16, 17, 18, 19] {
-            let head = format!("s{:02}-", number);
-            assert!(vectors.iter().any(|vector| vector.case.name.starts_with(&head)), "{}", head);
-        }
+        let numbers = [1, 2, 3, 4, 5, 6, 8, 9, 10, 11, 12, 14, 15, 16, 17, 18, 19];
+        let heads = numbers.iter().map(|number| format!("s{:02}-", number));
+        checks::has_names::<Question>(text, heads);
     }
 
     #[test]
     fn vectors_are_read_as_they_were_written() {
-        let written = on_large_stack(text).unwrap();
-        let said = |text: &str| -> Vec<String> {
-            let says = |line: &&str| !line.is_empty() && !line.starts_with('#');
-            text.lines().filter(says).map(str::to_string).collect()
-        };
-        let read: String =
-            vectors::parse(&written).unwrap().iter().map(|vector| vector.to_string()).collect();
-        assert_eq!(said(&read), said(&written));
+        checks::is_read_as_written::<Question>(text);
     }
 }

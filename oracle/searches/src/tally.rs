@@ -1,151 +1,52 @@
 //! Many random questions: how they are answered, and whether something else answers the same.
 
-use crate::question::{ask, Answer, Question};
+use crate::question::{Answer, Question};
 use crate::random;
 use crate::search::Found;
-use judge::run::on_large_stack;
-use std::collections::{BTreeMap, BTreeSet};
+use std::collections::BTreeMap;
 use std::fmt;
 
-const ACCEPTED: u8 = 0;
+pub use asked::tally::compare;
+pub type Labelled = asked::tally::Labelled<Question>;
+pub type Questions = asked::tally::Questions<Question>;
+pub type Said = asked::tally::Said<Answer>;
+pub type Tally = asked::tally::Tally<Counts>;
 
-/// A question and the row of the table that it is counted in.
-#[derive(Clone, Debug)]
-pub struct Labelled {
-    pub label: &'static str,
-    pub question: Question,
-}
-
-impl Labelled {
-    pub fn new(label: &'static str, question: Question) -> Labelled {
-        Labelled { label, question }
-    }
-}
-
-/// Answers by what was asked: how many were accepted (under 0), and how many refused with each number.
+/// Accepted searches by the members of their set and by their q, and their visits.
 #[derive(Clone, Debug, Default, PartialEq, Eq)]
-pub struct Tally {
-    rows: BTreeMap<&'static str, BTreeMap<u8, u64>>,
-    /// Of accepted searches, by the members of their set and by their q.
+pub struct Counts {
     members: BTreeMap<usize, u64>,
     quotients: BTreeMap<usize, u64>,
     visits: u64,
     most_visits: u64,
 }
 
-impl Tally {
-    fn count(&mut self, label: &'static str, answer: &Answer) {
-        let number = match answer {
-            Answer::Refused(number) => *number,
-            Answer::Found(found) => {
-                self.count_found(found);
-                ACCEPTED
-            }
-            Answer::Made(made) => {
-                self.count_found(&made.found);
-                ACCEPTED
-            }
-        };
-        *self.rows.entry(label).or_default().entry(number).or_default() += 1;
-    }
-
-    fn count_found(&mut self, found: &Found) {
+impl Counts {
+    pub fn count(&mut self, found: &Found) {
         *self.members.entry(found.set.len()).or_default() += 1;
         *self.quotients.entry(found.q).or_default() += 1;
         self.visits += found.visits;
         self.most_visits = self.most_visits.max(found.visits);
     }
-
-    /// How many questions of a row were refused with a number.
-    pub fn refused(&self, label: &str, number: u8) -> u64 {
-        self.rows.get(label).and_then(|row| row.get(&number)).copied().unwrap_or(0)
-    }
-
-    pub fn accepted(&self, label: &str) -> u64 {
-        self.refused(label, ACCEPTED)
-    }
 }
 
 /// The questions of this seed and index: a search, and of every fourth index a constraint.
-pub fn questions(seed: u64, index: u64) -> Vec<Labelled> {
+pub fn questions(seed: u64, index: u64) -> Questions {
     let mut questions = vec![Question::Search(random::search(seed, index))];
     if index % 4 == 0 {
         questions.push(Question::Constraint(random::constraint(seed, index / 4)));
     }
-    questions.into_iter().map(|question| Labelled::new(question.name(), question)).collect()
+    Ok(questions.into_iter().map(|question| Labelled::new(question.name(), question)).collect())
 }
 
 /// Asks the questions of so many indices.
 pub fn tally(seed: u64, count: u64) -> Result<Tally, String> {
-    each(seed, count, questions, |_, _| Ok(true)).map(|(tally, _)| tally)
+    asked::tally::tally(seed, count, questions)
 }
 
-/// What is compared says to a question: its answer, or none where it is not to be asked; or what else
-/// is wrong with it.
-pub type Said = Result<Option<Answer>, String>;
-
-/// Asks the same of the original and of something else, up to the first difference. What is not asked
-/// is not counted.
-pub fn compare(
-    seed: u64,
-    count: u64,
-    questions: impl Fn(u64, u64) -> Vec<Labelled> + Sync,
-    port: impl Fn(&Question) -> Said + Sync,
-) -> Result<(Tally, Option<String>), String> {
-    each(seed, count, questions, |question, answer| {
-        let given = port(question).map_err(|text| format!("{}{}", question, text))?;
-        match given {
-            Some(given) if given != *answer => {
-                Err(format!("{}expected is\n{}and given\n{}", question, answer, given))
-            }
-            given => Ok(given.is_some()),
-        }
-    })
-}
-
-/// Shows each question with its answer, up to the first where there is something to tell, and counts
-/// those that are to be counted.
-fn each(
-    seed: u64,
-    count: u64,
-    questions: impl Fn(u64, u64) -> Vec<Labelled> + Sync,
-    told: impl Fn(&Question, &Answer) -> Result<bool, String> + Sync,
-) -> Result<(Tally, Option<String>), String> {
-    on_large_stack(|| {
-        let mut tally = Tally::default();
-        for index in 0..count {
-            let place = |text: String| format!("input {} of seed {}: {}", index, seed, text);
-            for Labelled { label, question } in questions(seed, index) {
-                let answer =
-                    ask(&question).map_err(|text| place(format!("{}\n{}", text, question)))?;
-                match told(&question, &answer) {
-                    Ok(true) => tally.count(label, &answer),
-                    Ok(false) => {}
-                    Err(text) => return Ok((tally, Some(place(text)))),
-                }
-            }
-        }
-        Ok((tally, None))
-    })
-}
-
-impl fmt::Display for Tally {
+impl fmt::Display for Counts {
     fn fmt(&self, f: &mut fmt::Formatter<'_>) -> fmt::Result {
-        let numbers: BTreeSet<u8> =
-            self.rows.values().flat_map(|row| row.keys().copied()).collect();
-        let numbers: Vec<u8> = numbers.into_iter().filter(|&number| number != ACCEPTED).collect();
-        write!(f, "| {:<24} | {:>8} | {:>8} |", "Asked", "Runs", "Accepted")?;
-        numbers.iter().try_for_each(|number| write!(f, " {:>6} |", number))?;
-        writeln!(f, "\n|---|---|---|{}", "---|".repeat(numbers.len()))?;
-        for (label, row) in &self.rows {
-            let runs: u64 = row.values().sum();
-            write!(f, "| {:<24} | {:>8} | {:>8} |", label, runs, self.accepted(label))?;
-            for &number in &numbers {
-                write!(f, " {:>6} |", self.refused(label, number))?;
-            }
-            writeln!(f)?;
-        }
-        write!(f, "\nAccepted by members of the set:")?;
+        write!(f, "Accepted by members of the set:")?;
         self.members
             .iter()
             .try_for_each(|(members, count)| write!(f, " {}: {}", members, count))?;
@@ -158,7 +59,9 @@ impl fmt::Display for Tally {
 #[cfg(test)]
 mod tests {
     use super::*;
+    use crate::question::ask;
     use crate::refusals::*;
+    use asked::checks;
 
     const SEED: u64 = 3;
     const COUNT: u64 = 600;
@@ -174,7 +77,7 @@ mod tests {
         }
         assert!(tally.accepted("search") > COUNT / 3, "{}", tally);
         assert!(tally.accepted("constraint") > COUNT / 16, "{}", tally);
-        assert!((0..4).all(|members| tally.members.contains_key(&members)), "{}", tally);
+        assert!((0..4).all(|members| tally.counts.members.contains_key(&members)), "{}", tally);
     }
 
     fn original(question: &Question) -> Said {
@@ -188,14 +91,8 @@ mod tests {
         assert_eq!(Ok(compared), tally(SEED, 50));
     }
 
-    /// Whether a comparison finds the original, changed in what it answers.
     fn finds(change: impl Fn(&mut Answer) + Sync) -> bool {
-        let changed = |question: &Question| {
-            let mut answer = original(question)?;
-            answer.iter_mut().for_each(&change);
-            Ok(answer)
-        };
-        compare(SEED, COUNT, questions, changed).unwrap().1.is_some()
+        checks::finds(SEED, COUNT, questions, change)
     }
 
     #[test]
@@ -244,12 +141,6 @@ mod tests {
 
     #[test]
     fn questions_depend_on_seed_and_index_only() {
-        let text = |seed, index| -> String {
-            let asked = on_large_stack(|| Ok(questions(seed, index))).unwrap();
-            asked.iter().map(|labelled| labelled.question.to_string()).collect()
-        };
-        assert_eq!(text(7, 4), text(7, 4));
-        assert_ne!(text(7, 3), text(7, 4));
-        assert_ne!(text(7, 4), text(8, 4));
+        checks::depend_on_seed_and_index_only(questions);
     }
 }

@@ -2,22 +2,23 @@
 //! written.
 
 use crate::constraint::Constraint;
-use crate::question::{listed, Question};
+use crate::question::Question;
 use crate::search::Search;
+use asked::question::Lines;
+use asked::text::{listed, many, number, numbers};
 use judge::hex::{self, Reader};
 use judge::pool::{Expression, Node, Pool, EXPRESSION_FRAME, NODE_FRAME};
-use judge::script::{Command, Line, Request, TextFault};
+use judge::script::{Command, Request};
 use std::fmt;
-use std::str::FromStr;
 
 /// What the lines of a question have said so far.
 #[derive(Default)]
-struct Said<'a> {
+pub struct Said {
     pool: Pool,
     identities: Vec<u16>,
     bits: [u8; 2],
     limit: u64,
-    ask: Option<&'a str>,
+    ask: Option<String>,
     /// n_cm1, n_cm2 and nCommitments.
     columns: [u16; 3],
     vc: u16,
@@ -25,21 +26,14 @@ struct Said<'a> {
     second: Vec<Command>,
 }
 
-/// Reads a question; a fault outside of its lines is put on line `start`.
-pub fn parse(lines: &[Line<'_>], start: usize) -> Result<Question, TextFault> {
-    let mut said = Said::default();
-    for &(line, text) in lines {
-        said.take(text).map_err(|text| TextFault { line, text })?;
-    }
-    said.question().map_err(|text| TextFault { line: start, text })
-}
+impl Lines for Said {
+    type Question = Question;
 
-impl<'a> Said<'a> {
-    fn take(&mut self, line: &'a str) -> Result<(), String> {
+    fn take(&mut self, line: &str) -> Result<(), String> {
         let (head, rest) = line.split_once(' ').unwrap_or((line, ""));
         match head {
-            "ask" => self.ask = Some(rest),
-            "identities" => self.identities = many(rest)?,
+            "ask" => self.ask = Some(rest.to_string()),
+            "identities" => self.identities = listed_numbers(rest)?,
             "bits" => self.bits = numbers(rest)?,
             "limit" => [self.limit] = numbers(rest)?,
             "columns" => self.columns = numbers(rest)?,
@@ -51,23 +45,13 @@ impl<'a> Said<'a> {
         Ok(())
     }
 
-    fn take_frame(&mut self, bytes: &[u8]) -> Result<(), String> {
-        let mut reader = Reader::new(bytes);
-        match reader.u8()? {
-            NODE_FRAME => self.pool.push_node(Node::read(reader)?)?,
-            EXPRESSION_FRAME => self.pool.push_expression(Expression::read(reader)?)?,
-            other => return Err(format!("no frame begins with {:02x}", other)),
-        };
-        Ok(())
-    }
-
     fn question(self) -> Result<Question, String> {
         self.pool.check_links().map_err(|fault| fault.text)?;
         let Said { pool, identities, bits: [n_bits, n_bits_ext], limit, .. } = self;
         let search = Search { pool, identities, n_bits, n_bits_ext, limit };
         let [n_cm1, n_cm2, commitments] = self.columns;
         let Said { vc, first, second, .. } = self;
-        match self.ask {
+        match self.ask.as_deref() {
             Some("search") => Ok(Question::Search(search)),
             Some("constraint") => Ok(Question::Constraint(Constraint {
                 search,
@@ -81,6 +65,18 @@ impl<'a> Said<'a> {
             Some(name) => Err(format!("nothing is asked by {:?}", name)),
             None => Err("this asks nothing".to_string()),
         }
+    }
+}
+
+impl Said {
+    fn take_frame(&mut self, bytes: &[u8]) -> Result<(), String> {
+        let mut reader = Reader::new(bytes);
+        match reader.u8()? {
+            NODE_FRAME => self.pool.push_node(Node::read(reader)?)?,
+            EXPRESSION_FRAME => self.pool.push_expression(Expression::read(reader)?)?,
+            other => return Err(format!("no frame begins with {:02x}", other)),
+        };
+        Ok(())
     }
 }
 
@@ -99,19 +95,11 @@ fn command(rest: &str) -> Result<Command, String> {
     }
 }
 
-fn number<T: FromStr>(word: &str) -> Result<T, String> {
-    word.parse().map_err(|_| format!("{:?} is no number that fits here", word))
-}
-
-fn many<T: FromStr>(rest: &str) -> Result<Vec<T>, String> {
+fn listed_numbers(rest: &str) -> Result<Vec<u16>, String> {
     match rest {
         "-" => Ok(Vec::new()),
-        _ => rest.split(' ').map(number).collect(),
+        _ => many(rest),
     }
-}
-
-fn numbers<T: FromStr, const N: usize>(rest: &str) -> Result<[T; N], String> {
-    many(rest)?.try_into().map_err(|_| format!("{} numbers come here", N))
 }
 
 impl fmt::Display for Question {

@@ -12,7 +12,7 @@ use judge::random::Random;
 use plans::input::Input;
 use plans::lists::{Reference, Segment, Step, MAX_SOURCES};
 use plans::question::{Answer, Question};
-use plans::tally::{questions_on, Labelled, Said};
+use plans::tally::{questions_on, Questions, Said};
 use plans::walks::{Domain, Walk};
 use std::collections::BTreeMap;
 use std::sync::Mutex;
@@ -28,7 +28,7 @@ const FIXED_X: u16 = 1;
 const UNFIXED_X: u16 = 3;
 
 /// Random questions, some on pools and plans with large numbers.
-pub fn questions(seed: u64, index: u64) -> Result<Vec<Labelled>, String> {
+pub fn questions(seed: u64, index: u64) -> Questions {
     let random = &mut Random::new(seed, index);
     let mut input = plans::random::input(random);
     if index % SPREAD_EVERY == 0 {

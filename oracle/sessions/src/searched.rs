@@ -6,7 +6,7 @@ use crate::spread;
 use judge::random::Random;
 use searches::question::{Answer, Question};
 use searches::search::{visits_needed, Found, Search};
-use searches::tally::{Labelled, Said};
+use searches::tally::{Labelled, Questions, Said};
 
 /// One search of so many has its expressions spread.
 const SPREAD_EVERY: u64 = 4;
@@ -19,7 +19,7 @@ const UNWRITTEN: u64 = 0xa5a5_a5a5_a5a5_a5a5;
 
 /// Random searches, each also with one visit less than it needs, as many and one more, and some with
 /// large numbers.
-pub fn questions(seed: u64, index: u64) -> Vec<Labelled> {
+pub fn questions(seed: u64, index: u64) -> Questions {
     let mut search = searches::random::search(seed, index);
     let mut label = "search";
     if index % SPREAD_EVERY == 0 {
@@ -34,7 +34,8 @@ pub fn questions(seed: u64, index: u64) -> Vec<Labelled> {
         limits.extend([("as many visits", needed), ("one visit more", needed + 1)]);
     }
     let question = |limit| Question::Search(Search { limit, ..search.clone() });
-    limits.into_iter().map(|(label, limit)| Labelled::new(label, question(limit))).collect()
+    let labelled = |(label, limit)| Labelled::new(label, question(limit));
+    Ok(limits.into_iter().map(labelled).collect())
 }
 
 /// To a search; the constraint is not exported.

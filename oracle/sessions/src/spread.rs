@@ -155,8 +155,8 @@ mod tests {
         let mut members = Vec::new();
         for index in 0..COUNT {
             let answers = || {
-                let questions = searched::questions(SEED, index).into_iter();
-                questions.map(|asked| search_question::ask(&asked.question)).collect()
+                let questions = searched::questions(SEED, index)?;
+                questions.iter().map(|asked| search_question::ask(&asked.question)).collect()
             };
             let answers: Vec<search_question::Answer> = on_large_stack(answers).unwrap();
             for answer in answers {

@@ -1,0 +1,133 @@
+//! Many random questions: how they are answered, and whether something else answers the same.
+
+use crate::question::{Answer, Question};
+use judge::run::on_large_stack;
+use std::collections::{BTreeMap, BTreeSet};
+use std::fmt;
+
+const ACCEPTED: u8 = 0;
+
+/// A question and the row of the table that it is counted in.
+#[derive(Clone, Debug)]
+pub struct Labelled<Q> {
+    pub label: String,
+    pub question: Q,
+}
+
+impl<Q> Labelled<Q> {
+    pub fn new(label: &str, question: Q) -> Labelled<Q> {
+        Labelled { label: label.to_string(), question }
+    }
+}
+
+/// The questions of an index, or why there are none.
+pub type Questions<Q> = Result<Vec<Labelled<Q>>, String>;
+
+/// Answers by row: how many were accepted (under 0), and how many refused with each number.
+#[derive(Clone, Debug, Default, PartialEq, Eq)]
+pub struct Tally<C> {
+    rows: BTreeMap<String, BTreeMap<u8, u64>>,
+    pub counts: C,
+}
+
+pub type TallyOf<Q> = Tally<<<Q as Question>::Answer as Answer>::Counts>;
+
+impl<C> Tally<C> {
+    fn count(&mut self, label: String, answer: &impl Answer<Counts = C>) {
+        let number = answer.refusal().unwrap_or(ACCEPTED);
+        if number == ACCEPTED {
+            answer.count_in(&mut self.counts);
+        }
+        *self.rows.entry(label).or_default().entry(number).or_default() += 1;
+    }
+
+    /// How many questions of a row were refused with a number.
+    pub fn refused(&self, label: &str, number: u8) -> u64 {
+        self.rows.get(label).and_then(|row| row.get(&number)).copied().unwrap_or(0)
+    }
+
+    pub fn accepted(&self, label: &str) -> u64 {
+        self.refused(label, ACCEPTED)
+    }
+}
+
+/// Asks the questions of so many indices.
+pub fn tally<Q: Question>(
+    seed: u64,
+    count: u64,
+    questions: impl Fn(u64, u64) -> Questions<Q> + Sync,
+) -> Result<TallyOf<Q>, String> {
+    each(seed, count, questions, |_, _| Ok(true)).map(|(tally, _)| tally)
+}
+
+/// What is compared says to a question: its answer, or none where it is not to be asked; or what else
+/// is wrong with it.
+pub type Said<A> = Result<Option<A>, String>;
+
+/// A tally, and the first difference.
+pub type Compared<Q> = Result<(TallyOf<Q>, Option<String>), String>;
+
+/// Asks the same of the original and of something else, up to the first difference. What is not asked
+/// is not counted.
+pub fn compare<Q: Question>(
+    seed: u64,
+    count: u64,
+    questions: impl Fn(u64, u64) -> Questions<Q> + Sync,
+    port: impl Fn(&Q) -> Said<Q::Answer> + Sync,
+) -> Compared<Q> {
+    each(seed, count, questions, |question, answer| {
+        let given = port(question).map_err(|text| format!("{}{}", question, text))?;
+        match given {
+            Some(given) if given != *answer => {
+                Err(format!("{}expected is\n{}and given\n{}", question, answer, given))
+            }
+            given => Ok(given.is_some()),
+        }
+    })
+}
+
+/// Shows each question with its answer, up to the first where there is something to tell, and counts
+/// those that are to be counted.
+fn each<Q: Question>(
+    seed: u64,
+    count: u64,
+    questions: impl Fn(u64, u64) -> Questions<Q> + Sync,
+    told: impl Fn(&Q, &Q::Answer) -> Result<bool, String> + Sync,
+) -> Compared<Q> {
+    on_large_stack(|| {
+        let mut tally = TallyOf::<Q>::default();
+        for index in 0..count {
+            let place = |text: String| format!("input {} of seed {}: {}", index, seed, text);
+            for Labelled { label, question } in questions(seed, index).map_err(place)? {
+                let answer =
+                    question.ask().map_err(|text| place(format!("{}\n{}", text, question)))?;
+                match told(&question, &answer) {
+                    Ok(true) => tally.count(label, &answer),
+                    Ok(false) => {}
+                    Err(text) => return Ok((tally, Some(place(text)))),
+                }
+            }
+        }
+        Ok((tally, None))
+    })
+}
+
+impl<C: fmt::Display> fmt::Display for Tally<C> {
+    fn fmt(&self, f: &mut fmt::Formatter<'_>) -> fmt::Result {
+        let numbers: BTreeSet<u8> =
+            self.rows.values().flat_map(|row| row.keys().copied()).collect();
+        let numbers: Vec<u8> = numbers.into_iter().filter(|&number| number != ACCEPTED).collect();
+        write!(f, "| {:<24} | {:>8} | {:>8} |", "Asked", "Runs", "Accepted")?;
+        numbers.iter().try_for_each(|number| write!(f, " {:>6} |", number))?;
+        writeln!(f, "\n|---|---|---|{}", "---|".repeat(numbers.len()))?;
+        for (label, row) in &self.rows {
+            let runs: u64 = row.values().sum();
+            write!(f, "| {:<24} | {:>8} | {:>8} |", label, runs, self.accepted(label))?;
+            for &number in &numbers {
+                write!(f, " {:>6} |", self.refused(label, number))?;
+            }
+            writeln!(f)?;
+        }
+        write!(f, "\n{}", self.counts)
+    }
+}
