@@ -1,0 +1,2 @@
+// The pool with the constraint polynomial from bytes, as frames.
+pub mod members;
