@@ -5,13 +5,13 @@ use mathlib.Core.Path.{_≡_, refl, sym, _∙_, ap}
 use mathlib.Core.Bool.{Bool, true, false, cond, _&&_}
 use mathlib.Core.List.{List, [], _∷_, _++_, append-nil}
 use native.Mathlib.Omega.{arith}
-use native.Mathlib.Nat.{add-zero}
+use native.Mathlib.Nat.{add-zero, zero-add}
 use native.Mathlib.Numerals.{add-one}
 use lib.Dec.{eqb}
-use lib.ListN.{length, getD, set, length-append, take, replicate, length-replicate}
+use lib.ListN.{length, getD, set, length-append, take, drop}
 use lib.Seq.{take-append-seam}
 use borrow.Author.Tests.{eq-eqb, ne-eqb}
-use Rattle.kinds.specs.Write.{write, write-none, write-is, write-next}
+use Rattle.kinds.specs.Write.{write, write-none, write-is, write-next, write-length}
 use Rattle.search_meaning.specs.Search.{member, allBelow}
 use Rattle.sets.specs.Members.{those, bit, members}
 use Rattle.sets.proofs.Bits.{member-those}
@@ -90,15 +90,23 @@ module _ (w out : List ℕ) where
   unfolding members
   sofar-all {e} {n} {out′} s h =
       let z : e ≡ 512 = omega (arith, s .end) in
-      record { list = s .list ∙ ap (λ k. write out 0 (lower w k)) z; count = s .count ∙ ap (λ k. length (lower w k)) z }
+      record { list = s .list ∙ ap (λ k. write out 0 (lower w k)) z; count = s .count ∙ ap (λ k. length (lower w k)) z; few = omega (arith, s .few) }
 
 -- ---- what was listed
 
--- the front of a table that had 512 words
-pub listed-front : {w out out′ : List ℕ} {r : ℕ} → Listed w out out′ r → length out ≡ 512 → length (members w) ≤ 512 → take r out′ ≡ members w
-listed-front {w} {out} {out′} {r} l h f =
-    let e : write out 0 (members w) ≡ members w ++ _ = write-is out 0 (members w) (omega (arith, f)) in
-    rw (l .count, l .list, e) (take-append-seam (members w) _)
+-- in a table that had as many words as there may be members
+module _ {w out out′ : List ℕ} {r : ℕ} (l : Listed w out out′ r) (h : length out ≡ 512) where
+  pub listed-front : take r out′ ≡ members w
+  listed-front =
+      let e = write-is out 0 (members w) (omega (arith, l .count, l .few)) in
+      let f : write out 0 (members w) ≡ members w ++ drop (length (members w)) out = e ∙ ap (λ k. members w ++ drop k out) (zero-add (length (members w))) in
+      rw (l .count, l .list, f) (take-append-seam (members w) (drop (length (members w)) out))
+
+  pub listed-room : r ≤ length out′
+  listed-room = let e : length out′ ≡ length out = ap length (l .list) ∙ write-length out 0 (members w) in omega (arith, l .few)
+
+  pub listed-count : r ≡ length (take r out′)
+  listed-count = l .count ∙ sym (ap length listed-front)
 
 -- ---- good words
 

@@ -2,3 +2,7 @@
 pub mod Laws
 pub mod Formed
 pub mod Listing
+pub mod Numbering
+pub mod Extension
+pub mod Backward
+pub mod Unique
