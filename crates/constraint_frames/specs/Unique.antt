@@ -4,7 +4,7 @@ use Prim.Native.Nat.{ℕ, _+_}
 use mathlib.Core.Path.{_≡_, refl, sym, _∙_, ap, subst}
 use mathlib.Core.Bool.{Bool, true, false}
 use mathlib.Core.List.{List, []}
-use lib.ListN.{length}
+use lib.ListN.{length, getD, drop}
 use lib.Dec.{leb}
 use Rattle.meaning.specs.Refusals.{Refusal, Answer, done, refused, _then_}
 use Rattle.meaning.specs.Trees.{Forest}
@@ -16,7 +16,7 @@ use Rattle.pool.specs.Verdict.{Verdict}
 use Rattle.pool.specs.Exactly.{one-answer}
 use Rattle.pool.specs.Numbered.{poolOf}
 use Rattle.search_meaning.specs.Search.{Choice}
-use Rattle.constraint_meaning.specs.Tree.{columnsFrom}
+use Rattle.constraint_meaning.specs.Tree.{columnsFrom, constraintTree}
 use Rattle.constraint_meaning.specs.Constraint.{Asked, Made, fits, unless, treeFor, listsWith, madeWith}
 use Rattle.constraint_pool.specs.Judging.{judged}
 use Rattle.constraint_pool.specs.declared.judge.Columns.{Columns}
@@ -74,4 +74,4 @@ made-judged rows E nodes first second a x =
     let all = a .commitments + length (x .set) + x .q in
     ap (λ t. unless Refusal.full (fits (t .free) (length E + 1) all) then λ _. unless Refusal.counts (leb (a .nCm1 + a .nCm2) (a .commitments)) then λ _. f)
     (tree-for E nodes (a .vc) (a .identities) ms)
-    ∙ then-then _ _ Refusal.full Refusal.counts f
+    ∙ then-then (fits (constraintTree (a .vc) E nodes (getD (a .identities) 0 0) (drop 1 (a .identities)) ms .free) (length E + 1) all) (leb (a .nCm1 + a .nCm2) (a .commitments)) Refusal.full Refusal.counts f
