@@ -203,6 +203,11 @@ uint8_t enonkasse_build(const uint8_t *frames, size_t frames_size, uint8_t *cont
                         size_t list_size, uint8_t *first, size_t first_size, uint8_t *i, size_t i_size, uint8_t *last,
                         size_t last_size, size_t sizes[3]);
 
+/* The whole run in one call: serves the requests among the frames on a fresh context of its own and puts the first list at the front
+ * of `list`; says in `totals` how many steps it has and where the temporary counter stands. Room for ENONKASSE_LIST_ROOM steps
+ * always suffices. Refuses 1 and 9 while reading, 2, 3, 4 of the pool, 3, 5 of the requests, 9. */
+uint8_t enonkasse_run(const uint8_t *frames, size_t frames_size, uint8_t *list, size_t list_size, size_t totals[2]);
+
 /* ---- Evaluation ---------------------------------------------------------------------------------------------------
  *
  * Given values are words: seven that say how many words each part has, then the parts cm, const, q, public, challenge, eval

@@ -46,6 +46,7 @@ pub mod map;
 pub mod plan;
 pub mod pool;
 pub mod refusal;
+pub mod run;
 pub mod search;
 pub mod walks;
 
@@ -59,5 +60,6 @@ pub use map::Map;
 pub use plan::Plan;
 pub use pool::{ExpressionId, Flags, Node, NodeId, Pool, Request};
 pub use refusal::Refusal;
+pub use run::Run;
 pub use search::Found;
 pub use walks::Domain;

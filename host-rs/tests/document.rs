@@ -56,6 +56,18 @@ fn the_two_runs() {
 }
 
 #[test]
+fn the_whole_run_is_one_call() {
+    let pool = sum();
+    let asked = |request: Request| enonkasse::run::run(&pool.frames().with_requests(&[request]));
+    let done = asked(Request::of(ExpressionId(0)).fused()).unwrap();
+    let steps = done.first.steps(&pool.frames()).unwrap();
+    let steps = steps.iter().map(ToString::to_string).collect();
+    assert_eq!((steps, done.counter), lines(&["exp:0 = muladd cm:0 cm:1 const:0'"], 0));
+    assert_eq!(asked(Request::of(ExpressionId(0)).primed()), Err(Refusal::DoublePrime));
+    assert_eq!(asked(Request::of(ExpressionId(1))), Err(Refusal::NotThere));
+}
+
+#[test]
 fn of_two_products_the_first_is_fused() {
     let mut pool = Pool::new();
     let leaves = [0, 1, 2, 3].map(|id| pool.cm(id));

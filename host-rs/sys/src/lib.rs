@@ -29,6 +29,10 @@ exported! {
         first: &mut [u8], i: &mut [u8], last: &mut [u8], sizes: &mut [usize; 3]
     );
 
+    /// The whole run: serves the requests among the frames on a fresh context of its own and puts the first list at
+    /// the front of `list`; says how many steps it has, and where the temporary counter stands.
+    fn enonkasse_run as run(frames: &[u8], list: &mut [u8], totals: &mut [usize; 2]);
+
     /// Runs a list downwards modulo a number, and says the final value of every cell written.
     fn enonkasse_evaluate as evaluate(
         frames: &[u8], list: &[u8], modulus: u32, values: &[u64],

@@ -63,6 +63,11 @@ impl StepBytes {
         Ok(StepBytes(bytes))
     }
 
+    /// A step that is encoded already.
+    pub fn encoded(bytes: Vec<u8>) -> StepBytes {
+        StepBytes(bytes)
+    }
+
     pub fn bytes(&self) -> &[u8] {
         &self.0
     }

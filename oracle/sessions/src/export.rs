@@ -8,6 +8,7 @@ pub enum Export {
     Fresh,
     Serve,
     Build,
+    Run,
     Evaluate,
     Map,
     Fix,
@@ -36,10 +37,11 @@ impl Lent {
 }
 
 impl Export {
-    pub const ALL: [Export; 10] = [
+    pub const ALL: [Export; 11] = [
         Export::Fresh,
         Export::Serve,
         Export::Build,
+        Export::Run,
         Export::Evaluate,
         Export::Map,
         Export::Fix,
@@ -60,6 +62,7 @@ impl Export {
             Export::Fresh => &[0],
             Export::Serve => &[1, 2],
             Export::Build => &[1, 3, 4, 5],
+            Export::Run => &[1],
             Export::Evaluate | Export::Map | Export::DimensionFirst => &[2],
             Export::Fix | Export::Query | Export::Dimension => &[2, 3, 4],
             Export::Search => &[],
@@ -144,6 +147,7 @@ impl Between {
             Export::Build => {
                 library::build(next(), next(), next(), next(), next(), next(), counts.lent_array())
             }
+            Export::Run => library::run(next(), next(), counts.lent_array()),
             Export::Evaluate => {
                 let (modulus, values) = (numbers[0] as u32, word().lent());
                 library::evaluate(next(), next(), modulus, values, next(), counts.lent_array())

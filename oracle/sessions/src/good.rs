@@ -72,6 +72,7 @@ impl Good {
             Export::Fresh => Lent::of_bytes(&[&self.session.context]),
             Export::Serve => self.session.serve(),
             Export::Build => self.session.build(),
+            Export::Run => self.session.run(),
             Export::Evaluate => self.session.evaluate(),
             Export::Map => {
                 Lent { counts: vec![COUNT], ..Lent::of_bytes(&[frames, plan, &self.map_room]) }
@@ -140,6 +141,11 @@ impl Session {
         let parts: [&[u8]; 6] =
             [&pool_frames(&self.pool), &self.context, &self.list, &room, &room, &room];
         Lent { counts: vec![COUNT; 3], ..Lent::of_bytes(&parts) }
+    }
+
+    fn run(&self) -> Lent {
+        let parts: [&[u8]; 2] = [&self.frames(&self.requests), &self.list];
+        Lent { counts: vec![COUNT; 2], ..Lent::of_bytes(&parts) }
     }
 
     fn evaluate(&self) -> Lent {

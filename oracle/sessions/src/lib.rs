@@ -23,3 +23,4 @@ mod spoiled;
 mod spread;
 pub mod stack;
 pub mod summary;
+pub mod whole;

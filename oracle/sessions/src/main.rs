@@ -2,11 +2,12 @@
 
 use judge::command::{self, number, Done, DIFFERENT};
 use sessions::many::{self, Mode};
-use sessions::{garbage, planned, searched, stack, summary};
+use sessions::{garbage, planned, searched, stack, summary, whole};
 use std::process::ExitCode;
 
 const HELP: &str = "\
 sessions SEED COUNT             compares the exported functions with the original on COUNT random sessions
+sessions runs SEED COUNT        compares the whole run as one call with the original on COUNT random pools and requests
 sessions evaluate SEED COUNT    evaluates COUNT first lists and compares the cells with the trees
 sessions plans SEED COUNT       compares COUNT random plans and the walks over lists by them with the original
 sessions searches SEED COUNT    compares COUNT random degree searches with the original
@@ -43,6 +44,7 @@ fn asked(words: &[&str]) -> Option<Done> {
             return Some(Ok(ExitCode::SUCCESS));
         }
         ["all", seed, percent] => (compare_all, seed, percent),
+        ["runs", seed, count] => (compare_runs, seed, count),
         ["plans", seed, count] => (compare_plans, seed, count),
         ["searches", seed, count] => (compare_searches, seed, count),
         ["garbage", seed, count] => (try_garbage, seed, count),
@@ -58,6 +60,12 @@ fn run(mode: Mode, seed: u64, count: u64) -> Done {
     let part = many::run(mode, seed, count)?;
     many::print(mode, seed, &part);
     Ok(verdict(part.difference(mode, seed)?))
+}
+
+fn compare_runs(seed: u64, count: u64) -> Done {
+    let (tally, difference) = whole::compare(seed, count)?;
+    println!("{}", tally);
+    Ok(verdict(difference.map(|found| found.to_string())))
 }
 
 fn compare_plans(seed: u64, count: u64) -> Done {

@@ -1,7 +1,7 @@
 //! All that is compared with the original, and the garbage, in one table.
 
 use crate::many::{self, Mode};
-use crate::{garbage, planned, searched};
+use crate::{garbage, planned, searched, whole};
 use asked::rows::{total, Numbers, Rows, ACCEPTED};
 
 /// What one kind of input came to.
@@ -15,7 +15,8 @@ pub struct Summary {
 type Compare = fn(u64, u64) -> Result<Summary, String>;
 
 /// Each kind of input, and how many runs a hundred percent are.
-const KINDS: [(Compare, u64); 5] = [
+const KINDS: [(Compare, u64); 6] = [
+    (runs, 100_000),
     (sessions, 100_000),
     (evaluations, 100_000),
     (plans, 25_000),
@@ -38,6 +39,13 @@ pub fn all(seed: u64, percent: u64) -> Result<Vec<Summary>, String> {
         }
     }
     Ok(summaries)
+}
+
+fn runs(seed: u64, runs: u64) -> Result<Summary, String> {
+    let (tally, difference) = whole::compare(seed, runs)?;
+    let mut numbers = tally.refused;
+    numbers.insert(ACCEPTED, tally.accepted);
+    Ok(Summary { kind: "whole runs", runs, numbers, difference: difference.map(|d| d.to_string()) })
 }
 
 fn of_sessions(kind: &'static str, mode: Mode, seed: u64, runs: u64) -> Result<Summary, String> {
