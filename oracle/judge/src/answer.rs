@@ -86,7 +86,7 @@ fn write_reference(node: &code::Node, bytes: &mut Vec<u8>) -> Result<(), String>
     bytes.push(u8::from(node.prime));
     match (kind, &node.value) {
         (Kind::NUMBER, Some(text)) => {
-            Literal::from_decimal(text).ok_or_else(fault)?.write(bytes);
+            bytes.extend(Literal::from_decimal(text).ok_or_else(fault)?.bytes());
             Ok(())
         }
         (Kind::NUMBER, None) | (_, Some(_)) => Err(fault()),

@@ -4,12 +4,21 @@ use std::env;
 use std::path::PathBuf;
 use std::process;
 
+/// Names another folder in which the library stands.
+const FOLDER_VARIABLE: &str = "ENONKASSE_LIBRARY";
+
 /// From this manifest.
 const FOLDER: &str = "../../target/staticlib";
 
 fn main() {
-    let manifest = env::var_os("CARGO_MANIFEST_DIR").expect("cargo says where the manifest is");
-    let folder = PathBuf::from(manifest).join(FOLDER);
+    println!("cargo:rerun-if-env-changed={}", FOLDER_VARIABLE);
+    let folder = match env::var_os(FOLDER_VARIABLE) {
+        Some(folder) => PathBuf::from(folder),
+        None => {
+            let manifest = env::var_os("CARGO_MANIFEST_DIR").expect("cargo says where it is");
+            PathBuf::from(manifest).join(FOLDER)
+        }
+    };
     let archive = folder.join("libhost.a");
     println!("cargo:rerun-if-changed={}", archive.display());
     if !archive.is_file() {
