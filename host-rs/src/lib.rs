@@ -47,6 +47,7 @@ pub mod plan;
 pub mod pool;
 pub mod refusal;
 pub mod search;
+pub mod sections;
 pub mod walks;
 
 pub use context::Context;
