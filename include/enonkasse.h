@@ -1,5 +1,5 @@
 /*
- * The exported functions of libhost.a, which `rt staticlib host` writes, and every byte of their records.
+ * The exported functions of libhost.a, which `tools/library.sh` writes, and every byte of their records.
  *
  * Every function answers 0, or the number of a refusal (ENONKASSE_REFUSED_..), and then nothing lent has changed. None
  * keeps anything between calls, allocates, or asks anything of the bytes that it is lent: whatever they are, the answer is
@@ -322,6 +322,24 @@ uint8_t enonkasse_dimension_first(const uint8_t *frames, size_t frames_size, con
 uint8_t enonkasse_search(const uint8_t *frames, size_t frames_size, const uint64_t *identities, size_t identities_size,
                          uint64_t n_bits, uint64_t n_bits_ext, uint64_t limit, uint64_t chosen[ENONKASSE_SET_WORDS],
                          uint64_t found[2]);
+
+/* ---- Sections -----------------------------------------------------------------------------------------------------
+ *
+ * A polynomial's record. Within a section records of dimension 1 come first, then 2, then 3, each group in the order of the
+ * records; each position is the sum of the dimensions placed before. A record of another dimension keeps its position.
+ */
+struct enonkasse_pol_type {
+    uint16_t section;     /* ENONKASSE_SECTION_.. */
+    uint16_t dim;
+    uint16_t section_pos;
+};
+
+/* Writes the position of each record into it, and into `widths` 3 times ENONKASSE_SECTIONS numbers: N1 of each section, N of each, N3 of
+ * each. `sections`, `dims` and `positions` are as long as the records, and hold their columns afterwards. Refuses 1 where a size is
+ * another; then, by the first record that is either, 1 where its section is unknown and 9 past ENONKASSE_MAX_RECORDS. */
+uint8_t enonkasse_map_section(struct enonkasse_pol_type *records, size_t records_size, uint16_t *sections,
+                              size_t sections_size, uint16_t *dims, size_t dims_size, uint16_t *positions,
+                              size_t positions_size, uint16_t *widths, size_t widths_size);
 
 #ifdef __cplusplus
 }

@@ -48,6 +48,7 @@ pub mod pool;
 pub mod refusal;
 pub mod run;
 pub mod search;
+pub mod sections;
 pub mod walks;
 
 pub use context::Context;

@@ -1,6 +1,7 @@
-//! Finds the static library that `rt staticlib host` writes.
+//! Finds the static library that `tools/library.sh` writes.
 
 use std::env;
+use std::fs;
 use std::path::PathBuf;
 use std::process;
 
@@ -9,6 +10,9 @@ const FOLDER_VARIABLE: &str = "ENONKASSE_LIBRARY";
 
 /// From this manifest.
 const FOLDER: &str = "../../target/staticlib";
+
+/// The object that is put into it last.
+const LAST_OBJECT: &[u8] = b"records.o";
 
 fn main() {
     println!("cargo:rerun-if-env-changed={}", FOLDER_VARIABLE);
@@ -21,8 +25,9 @@ fn main() {
     };
     let archive = folder.join("libhost.a");
     println!("cargo:rerun-if-changed={}", archive.display());
-    if !archive.is_file() {
-        eprintln!("{} is not there: rt staticlib host makes it", archive.display());
+    let bytes = fs::read(&archive).unwrap_or_default();
+    if !bytes.windows(LAST_OBJECT.len()).any(|part| part == LAST_OBJECT) {
+        eprintln!("{} is not there, or not whole: tools/library.sh makes it", archive.display());
         process::exit(1);
     }
     println!("cargo:rustc-link-search=native={}", folder.display());

@@ -2,7 +2,7 @@
 
 use enonkasse::map::Section;
 use enonkasse::{NodeKind, ReferenceKind, Refusal, StepKind};
-use enonkasse_sys::{CONSTANTS, EXPORTS};
+use enonkasse_sys::{records, CONSTANTS, EXPORTS};
 use std::collections::BTreeMap;
 use std::fmt::Debug;
 
@@ -85,6 +85,7 @@ fn in_c(parameter: &str) -> String {
     let (name, kind) = parameter.split_once(':').expect("a name and a type");
     let number = |kind: &str| match kind {
         "usize" => "size_t".to_string(),
+        "PolType" => "struct enonkasse_pol_type".to_string(),
         kind => format!("uint{}_t", kind.strip_prefix('u').expect("a number without a sign")),
     };
     let (constant, kind) = match (kind.strip_prefix("&mut["), kind.strip_prefix("&[")) {
@@ -104,7 +105,7 @@ fn in_c(parameter: &str) -> String {
 
 #[test]
 fn prototypes_are_those_of_the_declared_functions() {
-    let declared = EXPORTS.iter().map(|(name, parameters)| {
+    let declared = EXPORTS.iter().chain(records::EXPORTS).map(|(name, parameters)| {
         let bare: String = parameters.split_whitespace().collect();
         let parameters: Vec<String> = bare.trim_end_matches(',').split(',').map(in_c).collect();
         format!("uint8_t {}({})", name, parameters.join(", "))

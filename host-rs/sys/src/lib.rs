@@ -9,6 +9,7 @@
 mod constants;
 #[macro_use]
 mod exported;
+pub mod records;
 
 pub use constants::*;
 
