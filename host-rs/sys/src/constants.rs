@@ -68,4 +68,8 @@ constants! {
     SET_BIT_WORDS = 8;
     /// Words of a set of expressions: the bits, and how many are set.
     SET_WORDS = 9;
+
+    /// Numbers that the pool with the constraint is told with: c_exp, n_cm3, n_cm4, the first of qs, nCommitments, and
+    /// the bytes of its frames.
+    CONSTRAINT_NUMBERS = 6;
 }

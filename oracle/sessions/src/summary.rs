@@ -1,7 +1,7 @@
 //! All that is compared with the original, and the garbage, in one table.
 
 use crate::many::{self, Mode};
-use crate::{garbage, planned, searched, whole};
+use crate::{constrained, garbage, planned, searched, whole};
 use asked::rows::{total, Numbers, Rows, ACCEPTED};
 
 /// What one kind of input came to.
@@ -15,12 +15,13 @@ pub struct Summary {
 type Compare = fn(u64, u64) -> Result<Summary, String>;
 
 /// Each kind of input, and how many runs a hundred percent are.
-const KINDS: [(Compare, u64); 6] = [
+const KINDS: [(Compare, u64); 7] = [
     (runs, 100_000),
     (sessions, 100_000),
     (evaluations, 100_000),
     (plans, 25_000),
     (searches, 50_000),
+    (constraints, 50_000),
     (garbage, 100_000),
 ];
 
@@ -78,6 +79,11 @@ fn plans(seed: u64, runs: u64) -> Result<Summary, String> {
 fn searches(seed: u64, runs: u64) -> Result<Summary, String> {
     let (tally, difference) = searched::compare(seed, runs)?;
     Ok(Summary { kind: "searches", runs, numbers: tally.rows.numbers(), difference })
+}
+
+fn constraints(seed: u64, runs: u64) -> Result<Summary, String> {
+    let (tally, difference) = constrained::compare(seed, runs)?;
+    Ok(Summary { kind: "constraints", runs, numbers: tally.rows.numbers(), difference })
 }
 
 fn garbage(seed: u64, runs: u64) -> Result<Summary, String> {
