@@ -1,0 +1,1 @@
+-- Lemmas over plain variables, which the functions' proofs cite.
