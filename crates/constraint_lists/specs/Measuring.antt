@@ -76,9 +76,14 @@ pub record MeasureAsks (w xs : List ℕ) (b : Rest) (js : List Job) (j s t x l :
 abbrev pub MeasureAsked : List ℕ → List ℕ → List ℕ → List ℕ → List ℕ → List ℕ → ℕ → ℕ → Type 0
 MeasureAsked w xs j t x l m n = (b : Rest) × (js : List Job) × (s : List ℕ) × MeasureAsks w xs b js j s t x l m n
 
--- THE WORDS OF ALL BLOCKS, and the sizes of the three lists, or 9
+-- where there is room, the words of all blocks
+abbrev pub WordsAre : Measured → List ℕ → List ℕ → Type 0
+WordsAre measured.Full t f = Unit {0}
+WordsAre (measured.Sizes a i l) t f = t ≡ f
+
+-- THE SIZES OF THE THREE LISTS, or 9
 pub record Measures (F : Forest) (js : List Job) (closes : Bool) (s t t′ x l : List ℕ) (o : Lists) (n : ℕ) (r : Measured) : Type 0 where
-  pub words : t′ ≡ finalWords F js closes t x n
+  pub words : WordsAre r t′ (finalWords F js closes t x n)
   pub says :
       measuredSays r
       ≡ cond (roomFor F (length l) o (finalSaid F js closes s x l)) (done (sizes (segmentSaid F (finalSaid F js closes s x l)))) (refused Refusal.full none)

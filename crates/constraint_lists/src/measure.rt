@@ -33,18 +33,28 @@ fn fits_in(out: &[u8], steps: usize) -> bool
     STEP_SIZE * steps <= out.len()
 }
 
-// Where there is a closing product, the last of n blocks has a step more. Answers how many steps more there are.
-fn close_words(words: &mut [u64; JOB_LIMIT], n: usize, closes: bool) -> usize
-    requires { ⌜ CloseWordsAsks (now words) n ⌝ }
-    ensures { λ r. ⌜ (now (words .exit) ≡ closedWords closes (now (words .entry)) n) × (r ≡ closedMore closes n) ⌝ }
+// How many steps more the closing product of n blocks is.
+fn more_steps(n: usize, closes: bool) -> usize
+    ensures { λ r. ⌜ r ≡ closedMore closes n ⌝ }
 {
     if closes {
         if 0 < n {
-            grow(words, n - 1);
             return 1;
         }
     }
     0
+}
+
+// Where there is a closing product, the last of n blocks has a step more.
+fn close_words(words: &mut [u64; JOB_LIMIT], n: usize, closes: bool)
+    requires { ⌜ CloseWordsAsks (now words) n ⌝ }
+    ensures { λ _. ⌜ now (words .exit) ≡ closedWords closes (now (words .entry)) n ⌝ }
+{
+    if closes {
+        if 0 < n {
+            grow(words, n - 1);
+        }
+    }
 }
 
 // Room for the three lists of n blocks, which have so many steps.
@@ -79,7 +89,7 @@ fn rooms(
     }
 }
 
-// The first n jobs, in a pool of m expressions. Leaves the words of all blocks: those of the context, those of the jobs, and the last with the closing product.
+// The first n jobs, in a pool of m expressions. Where there is room, leaves the words of all blocks: those of the context, those of the jobs, and the last with the closing product.
 pub fn measure(
     nodes: &[u64; NODE_WORDS],
     expressions: &[u64; EXPRESSION_LIMIT],
@@ -101,11 +111,12 @@ pub fn measure(
     let at = steps_of(context);
     let t = temporaries_of(context);
     let own = size_all(nodes, expressions, jobs, n);
-    place_all(nodes, expressions, jobs, words, n, blocks);
-    let more = close_words(words, blocks + n, closes);
+    let more = more_steps(blocks + n, closes);
     if !has_room(list, at + own + more, t + (own - n)) {
         return Measured::Full;
     }
+    place_all(nodes, expressions, jobs, words, n, blocks);
+    close_words(words, blocks + n, closes);
     rooms(
         expressions,
         words,
