@@ -12,11 +12,11 @@ use Rattle.meaning.specs.Generation.{State, serve, serveAll}
 use Rattle.meaning.specs.Holding.{mapped}
 use Rattle.builds.specs.Raw.{RawSegment}
 use Rattle.builds.specs.RawOf.{rawLists}
-use Rattle.codegen.specs.Said.{Said, saidOf, serveSaid, segmentSaid, afterSaid, serve-said, segment-said, after-said}
+use Rattle.codegen.specs.Said.{Said, saidOf, serveSaid, segmentSaid, afterSaid, serve-said, segment-said}
 use Rattle.constraint_meaning.specs.Constraint.{Built, builtFrom, plainRequest, plainRequests, step3, marked, closing, step42ns}
-use Rattle.constraint_pieces.specs.Closed.{closedSaid, closed-said}
-use Rattle.constraint_pieces.specs.Marking.{markedSaid, marked-of}
-use Rattle.constraint_lists.specs.Lists.{closedIf, listSaid, step3Said, step42nsSaid}
+use Rattle.constraint_pieces.specs.Closed.{closed-said}
+use Rattle.constraint_pieces.specs.Marking.{markedSaid}
+use Rattle.constraint_lists.specs.Lists.{closedIf, step3Said, step42nsSaid}
 
 -- a list that was built, and what is said after it
 pub record SaidBuilt : Type 0 where
@@ -42,28 +42,40 @@ module _ (E : Forest) where
       or-false true = refl
       or-false false = refl
 
+  -- ── before the build ───────────────────────────────────────────────────────
+  pub step3-is : (members : List ℕ) (st : State) → step3Said E members (saidOf st) ≡ mapped saidOf (serveAll 2 E (plainRequests members) st)
+  step3-is members st =
+      ap (λ (s : Said). serveSaid E (plainRequests members) s then λ u. done (closedIf false u)) (none-marked (saidOf st))
+      ∙ ap (λ (z : Answer Said). z then λ u. done (closedIf false u)) (serve-said E (plainRequests members) st)
+      ∙ go (serveAll 2 E (plainRequests members) st)
+    where
+      go : (z : Answer State) → (mapped saidOf z then λ u. done (closedIf false u)) ≡ mapped saidOf z
+      go (done s) = refl
+      go (refused k o) = refl
+
+  pub step42ns-is :
+      (members : List ℕ) (c : ℕ) (st : State) →
+      step42nsSaid E members c (saidOf st) ≡ mapped (λ u. saidOf (closing u)) (serve 2 E (plainRequest c) (marked 2 members st))
+  step42ns-is members c st =
+      ap (λ (z : Answer Said). z then λ u. done (closedIf true u)) (serve-said E (plainRequests (c ∷ [])) (marked 2 members st))
+      ∙ go (serve 2 E (plainRequest c) (marked 2 members st))
+    where
+      go : (z : Answer State) → (mapped saidOf (z then λ s. done s) then λ u. done (closedIf true u)) ≡ mapped (λ u. saidOf (closing u)) z
+      go (done s) = ap done (closed-said s)
+      go (refused k o) = refl
+
+  -- ── with it ────────────────────────────────────────────────────────────────
+  built-all : (f : State → State) (z : Answer State) → (mapped (λ u. saidOf (f u)) z then λ u. done (builtSaid E u)) ≡ mapped rawBuilt (z then λ u. done (builtFrom 2 E (f u)))
+  built-all f (done s) = ap done (built-of (f s))
+  built-all f (refused k o) = refl
+
   -- STEP3
   pub step3-said : (members : List ℕ) (st : State) → (step3Said E members (saidOf st) then λ s. done (builtSaid E s)) ≡ mapped rawBuilt (step3 2 E members st)
   step3-said members st =
-      ap (λ (s : Said). (serveSaid E (plainRequests members) s then λ u. done (closedIf false u)) then λ u. done (builtSaid E u)) (none-marked (saidOf st))
-      ∙ ap (λ (z : Answer Said). (z then λ u. done (closedIf false u)) then λ u. done (builtSaid E u)) (serve-said E (plainRequests members) st)
-      ∙ go (serveAll 2 E (plainRequests members) st)
-    where
-      go :
-          (z : Answer State) →
-          ((mapped saidOf z then λ u. done (closedIf false u)) then λ u. done (builtSaid E u)) ≡ mapped rawBuilt (z then λ u. done (builtFrom 2 E u))
-      go (done s) = ap done (built-of s)
-      go (refused k o) = refl
+      ap (λ (z : Answer Said). z then λ u. done (builtSaid E u)) (step3-is members st) ∙ built-all (λ u. u) (serveAll 2 E (plainRequests members) st)
 
   -- STEP42NS
   pub step42ns-said :
       (members : List ℕ) (c : ℕ) (st : State) → (step42nsSaid E members c (saidOf st) then λ s. done (builtSaid E s)) ≡ mapped rawBuilt (step42ns 2 E members c st)
   step42ns-said members c st =
-      ap (λ (z : Answer Said). (z then λ u. done (closedIf true u)) then λ u. done (builtSaid E u)) (serve-said E (plainRequests (c ∷ [])) (marked 2 members st))
-      ∙ go (serve 2 E (plainRequest c) (marked 2 members st))
-    where
-      go :
-          (z : Answer State) →
-          ((mapped saidOf (z then λ s. done s) then λ u. done (closedIf true u)) then λ u. done (builtSaid E u)) ≡ mapped rawBuilt (z then λ u. done (builtFrom 2 E (closing u)))
-      go (done s) = ap (λ (u : Said). done (builtSaid E u)) (closed-said s) ∙ ap done (built-of (closing s))
-      go (refused k o) = refl
+      ap (λ (z : Answer Said). z then λ u. done (builtSaid E u)) (step42ns-is members c st) ∙ built-all closing (serve 2 E (plainRequest c) (marked 2 members st))
