@@ -1,0 +1,3 @@
+-- Theorems on what the lists and the contexts after them stand for.
+pub mod Bounds
+pub mod Stood
