@@ -1,7 +1,7 @@
 //! All that is compared with the original, and the garbage, in one table.
 
 use crate::many::{self, Mode};
-use crate::{garbage, planned, searched};
+use crate::{garbage, planned, searched, sectioned};
 use asked::rows::{total, Numbers, Rows, ACCEPTED};
 
 /// What one kind of input came to.
@@ -15,11 +15,12 @@ pub struct Summary {
 type Compare = fn(u64, u64) -> Result<Summary, String>;
 
 /// Each kind of input, and how many runs a hundred percent are.
-const KINDS: [(Compare, u64); 5] = [
+const KINDS: [(Compare, u64); 6] = [
     (sessions, 100_000),
     (evaluations, 100_000),
     (plans, 25_000),
     (searches, 50_000),
+    (sections, 100_000),
     (garbage, 100_000),
 ];
 
@@ -70,6 +71,15 @@ fn plans(seed: u64, runs: u64) -> Result<Summary, String> {
 fn searches(seed: u64, runs: u64) -> Result<Summary, String> {
     let (tally, difference) = searched::compare(seed, runs)?;
     Ok(Summary { kind: "searches", runs, numbers: tally.rows.numbers(), difference })
+}
+
+fn sections(seed: u64, runs: u64) -> Result<Summary, String> {
+    let port = sectioned::Port::default();
+    let (tally, difference) = port.compare(seed, runs)?;
+    let mut rows = Rows::default();
+    rows.add("", &tally.rows.numbers());
+    rows.add("", &port.faults.lock().expect("a tally").numbers());
+    Ok(Summary { kind: "sections", runs, numbers: rows.numbers(), difference })
 }
 
 fn garbage(seed: u64, runs: u64) -> Result<Summary, String> {
