@@ -19,6 +19,7 @@ mod refusals;
 #[cfg(test)]
 mod search_edges;
 pub mod searched;
+pub mod sectioned;
 mod session;
 mod spoiled;
 mod spread;
