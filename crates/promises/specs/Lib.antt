@@ -1,0 +1,4 @@
+-- The page that an auditor reads: statements about the exported functions, each a citation or a short corollary.
+pub mod Contracts
+pub mod Bytes
+pub mod OneOutcome
