@@ -2,3 +2,4 @@
 pub mod Contracts
 pub mod Bytes
 pub mod OneOutcome
+pub mod Unchanged
