@@ -3,3 +3,4 @@ pub mod Contracts
 pub mod Bytes
 pub mod OneOutcome
 pub mod Unchanged
+pub mod Examples
