@@ -3,4 +3,7 @@ pub mod Contracts
 pub mod Bytes
 pub mod OneOutcome
 pub mod Unchanged
+pub mod Ways
+pub mod Exact
+pub mod ExactPlans
 pub mod Examples
