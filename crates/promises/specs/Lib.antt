@@ -6,4 +6,5 @@ pub mod Unchanged
 pub mod Ways
 pub mod Exact
 pub mod ExactPlans
+pub mod Rows
 pub mod Examples
