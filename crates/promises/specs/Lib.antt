@@ -7,4 +7,5 @@ pub mod Ways
 pub mod Exact
 pub mod ExactPlans
 pub mod Rows
+pub mod Gives
 pub mod Examples
