@@ -2,23 +2,16 @@
 
 use crate::frames::Frames;
 use crate::kinds::ReferenceKind;
-use crate::library;
-use crate::list::{List, Segment, STEP_SIZE};
+use crate::list::{List, Segment};
 use crate::pool::ExpressionId;
 use crate::refusal::Refusal;
+use enonkasse_sys::{
+    self as library, BLOCK_COUNT_AT, MARKS_AT, MAX_EXPRESSIONS, ROWS, STEP_COUNT_AT, STEP_SIZE,
+    TEMPORARY_COUNT_AT,
+};
 
 /// Steps that always suffice for what one pool gives to requests that ask for no result.
-pub const ROOM: usize = 8192;
-
-/// Places in a context.
-const BLOCKS_AT: usize = 4;
-const STEPS_AT: usize = 6;
-const TEMPORARIES_AT: usize = 8;
-const MARKS_AT: usize = 10;
-
-/// This row and the next.
-const ROWS: usize = 2;
-const MAX_EXPRESSIONS: usize = 512;
+pub const ROOM: usize = library::LIST_ROOM;
 
 /// A context and its list. It belongs to one pool: with another it may be refused, or its marks
 /// speak of other expressions.
@@ -43,7 +36,7 @@ impl Context {
     /// A fresh context with room for so many steps.
     pub fn with_room(steps: usize) -> Context {
         let list = vec![0; STEP_SIZE * steps];
-        let mut context = Context { bytes: vec![0; library::CONTEXT], list };
+        let mut context = Context { bytes: vec![0; library::CONTEXT_SIZE], list };
         context.fresh();
         context
     }
@@ -98,7 +91,9 @@ impl Context {
             frames.bytes(),
             &mut self.bytes,
             &self.list,
-            [first, i, last],
+            first,
+            i,
+            last,
             &mut sizes,
         ))?;
         lists.iter_mut().zip(sizes).for_each(|(list, size)| list.truncate(STEP_SIZE * size));
@@ -113,17 +108,17 @@ impl Context {
 
     /// How many steps those are.
     pub fn step_count(&self) -> usize {
-        self.number_at(STEPS_AT)
+        self.number_at(STEP_COUNT_AT)
     }
 
     /// How many blocks those are.
     pub fn block_count(&self) -> usize {
-        self.number_at(BLOCKS_AT)
+        self.number_at(BLOCK_COUNT_AT)
     }
 
     /// The temporary counter.
     pub fn temporary_count(&self) -> usize {
-        self.number_at(TEMPORARIES_AT)
+        self.number_at(TEMPORARY_COUNT_AT)
     }
 
     /// Whether an expression is marked, at this row or at the next.

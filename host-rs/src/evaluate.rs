@@ -2,9 +2,9 @@
 
 use crate::frames::Frames;
 use crate::kinds::ReferenceKind;
-use crate::library;
 use crate::list::List;
 use crate::refusal::Refusal;
+use enonkasse_sys::{self as library, CELL_SIZE};
 
 /// The values that a run begins with, each reduced modulo the run's number. What is past the end of
 /// its part is not given.
@@ -51,9 +51,6 @@ pub struct Cell {
     pub value: u64,
 }
 
-/// Bytes of a cell: kind, prime, id (2), value (8).
-const CELL: usize = 12;
-
 impl Cell {
     fn read(bytes: &[u8]) -> Cell {
         Cell {
@@ -79,10 +76,10 @@ pub fn evaluate(
     values: &Values,
 ) -> Result<Vec<Cell>, Refusal> {
     // A step writes one cell.
-    let (mut out, mut cells) = (vec![0; CELL * list.len()], [0]);
+    let (mut out, mut cells) = (vec![0; CELL_SIZE * list.len()], [0]);
     let (frames, list, words) = (frames.bytes(), list.bytes(), values.words());
     Refusal::check(library::evaluate(frames, list, modulus, &words, &mut out, &mut cells))?;
-    Ok(out.chunks(CELL).take(cells[0]).map(Cell::read).collect())
+    Ok(out.chunks(CELL_SIZE).take(cells[0]).map(Cell::read).collect())
 }
 
 #[cfg(test)]

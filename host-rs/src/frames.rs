@@ -1,8 +1,8 @@
 //! Frames as the library reads them, each behind its length.
 
 use crate::kinds::NodeKind;
-use crate::literal::{self, Literal};
 use crate::pool::Request;
+use enonkasse_literal::{self as literal, Literal};
 
 /// Frames of document 01 one behind the other: nodes, then expressions, then requests.
 #[derive(Clone, Debug, Default, PartialEq, Eq)]

@@ -34,31 +34,33 @@
 //! # Ok::<(), enonkasse::Refusal>(())
 //! ```
 
-#![deny(missing_docs, unsafe_code)]
+#![deny(missing_docs)]
+#![forbid(unsafe_code)]
 
 pub mod context;
 pub mod evaluate;
 pub mod frames;
 pub mod kinds;
-mod library;
 pub mod list;
-pub mod literal;
 pub mod map;
 pub mod plan;
 pub mod pool;
 pub mod refusal;
+pub mod run;
 pub mod search;
+pub mod sections;
 pub mod walks;
 
 pub use context::Context;
+pub use enonkasse_literal::Literal;
 pub use evaluate::Values;
 pub use frames::Frames;
 pub use kinds::{NodeKind, ReferenceKind, StepKind};
 pub use list::{List, Reference, Segment, Step};
-pub use literal::Literal;
 pub use map::Map;
 pub use plan::Plan;
 pub use pool::{ExpressionId, Flags, Node, NodeId, Pool, Request};
 pub use refusal::Refusal;
+pub use run::Run;
 pub use search::Found;
 pub use walks::Domain;

@@ -2,21 +2,14 @@
 
 use crate::frames::Frames;
 use crate::kinds::{ReferenceKind, StepKind};
-use crate::literal::Literal;
 use crate::refusal::Refusal;
+use enonkasse_literal::Literal;
+use enonkasse_sys::{MAX_SOURCES, REFERENCE_SIZE};
 use std::fmt;
 
-/// Bytes of a reference: kind, prime, id (2), dimension (2), p (2), tree position (2), extra (2).
-const REFERENCE: usize = 12;
+pub use enonkasse_sys::STEP_SIZE;
 
-/// Bytes of a step: step, source count, origin (2), destination and three sources.
-pub const STEP_SIZE: usize = 4 + 4 * REFERENCE;
-
-/// A step has at most so many sources.
-const MAX_SOURCES: usize = 3;
-
-/// The origin of a step that no node is known for.
-const NO_ORIGIN: u16 = 0xffff;
+const NO_ORIGIN: u16 = enonkasse_sys::NO_ORIGIN as u16;
 
 /// A cell or a literal that a step reads or writes.
 #[derive(Clone, Copy, Debug, PartialEq, Eq, Hash)]
@@ -130,7 +123,7 @@ impl Step {
             return None;
         }
         let mut references =
-            record[4..].chunks(REFERENCE).map(|bytes| Reference::read(bytes, frames));
+            record[4..].chunks(REFERENCE_SIZE).map(|bytes| Reference::read(bytes, frames));
         let origin = u16::from_be_bytes([record[2], record[3]]);
         Some(Step {
             kind: StepKind::from_byte(record[0])?,

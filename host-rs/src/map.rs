@@ -1,10 +1,10 @@
 //! `map`: the sections, records and columns of a plan.
 
 use crate::frames::Frames;
-use crate::library;
 use crate::plan::Plan;
 use crate::pool::ExpressionId;
 use crate::refusal::Refusal;
+use enonkasse_sys as library;
 use std::fmt;
 
 /// The sections of a plan's columns, in the order of their offsets.
@@ -35,7 +35,7 @@ pub enum Section {
 }
 
 /// How many sections there are.
-pub const SECTIONS: usize = 11;
+pub const SECTIONS: usize = library::SECTIONS;
 
 impl Section {
     /// All sections in their order.
@@ -125,11 +125,7 @@ pub struct Map {
     pub q_dim: u16,
 }
 
-/// More bytes than the answer for 4,096 records, 512 temporary columns and 512 expressions has.
-const ROOM: usize = 1 << 16;
-
-/// exp2pol of an expression without a record.
-const NO_RECORD: u16 = 0xffff;
+const NO_RECORD: u16 = library::NO_RECORD as u16;
 
 /// Maps a plan over a pool.
 ///
@@ -137,7 +133,7 @@ const NO_RECORD: u16 = 0xffff;
 ///
 /// The refusal of the frames, of the plan's record, of the pool, or 16, 11, 12 of the plan.
 pub fn map(frames: &Frames, plan: &Plan) -> Result<Map, Refusal> {
-    let (mut out, mut size) = (vec![0; ROOM], [0]);
+    let (mut out, mut size) = (vec![0; library::MAP_ROOM], [0]);
     Refusal::check(library::map(frames.bytes(), &plan.record(), &mut out, &mut size))?;
     let numbers = out[..size[0]].chunks(2).map(|pair| u16::from_be_bytes([pair[0], pair[1]]));
     Ok(Numbers(numbers).map())

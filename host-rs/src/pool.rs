@@ -2,7 +2,7 @@
 
 use crate::frames::Frames;
 use crate::kinds::NodeKind;
-use crate::literal::Literal;
+use enonkasse_literal::Literal;
 
 /// The number of a node in its pool.
 #[derive(Clone, Copy, Debug, PartialEq, Eq, Hash, PartialOrd, Ord)]

@@ -1,9 +1,9 @@
 //! The degree search.
 
 use crate::frames::Frames;
-use crate::library::{self, SET_WORDS};
 use crate::pool::ExpressionId;
 use crate::refusal::Refusal;
+use enonkasse_sys::{self as library, MAX_EXPRESSIONS, SET_WORDS};
 
 /// What a search found.
 #[derive(Clone, Debug, PartialEq, Eq, Hash)]
@@ -29,13 +29,19 @@ pub fn search(
     limit: u64,
 ) -> Result<Found, Refusal> {
     let identities: Vec<u64> = identities.iter().map(|expression| expression.0.into()).collect();
-    let bits = [n_bits.into(), n_bits_ext.into()];
     let (mut chosen, mut found) = ([0; SET_WORDS], [0; 2]);
-    let (frames, identities) = (frames.bytes(), &identities[..]);
-    Refusal::check(library::search(frames, identities, bits, limit, &mut chosen, &mut found))?;
+    Refusal::check(library::search(
+        frames.bytes(),
+        &identities,
+        n_bits.into(),
+        n_bits_ext.into(),
+        limit,
+        &mut chosen,
+        &mut found,
+    ))?;
     let [q, visits] = found;
     let is_in = |&e: &u16| chosen[usize::from(e / 64)] >> (e % 64) & 1 == 1;
-    let set = (0..64 * SET_WORDS as u16).filter(is_in).map(ExpressionId).collect();
+    let set = (0..MAX_EXPRESSIONS as u16).filter(is_in).map(ExpressionId).collect();
     Ok(Found { set, q, visits })
 }
 
@@ -46,7 +52,7 @@ mod tests {
     #[test]
     fn a_refusal_changes_nothing_lent() {
         let (mut chosen, mut found) = ([7; SET_WORDS], [8; 2]);
-        let answer = library::search(&[], &[], [3, 3], 10, &mut chosen, &mut found);
+        let answer = library::search(&[], &[], 3, 3, 10, &mut chosen, &mut found);
         assert_eq!((answer, chosen, found), (17, [7; SET_WORDS], [8; 2]));
     }
 }

@@ -1,10 +1,10 @@
 //! The walks over lists by a plan: fixing, the query code's trees, and dimensions.
 
 use crate::frames::Frames;
-use crate::library;
 use crate::list::{List, Segment};
 use crate::plan::Plan;
 use crate::refusal::Refusal;
+use enonkasse_sys as library;
 
 /// The domain that a segment is fixed for.
 #[derive(Clone, Copy, Debug, PartialEq, Eq, Hash)]
@@ -42,8 +42,8 @@ pub fn fix(
     segment: &mut Segment,
 ) -> Result<(), Refusal> {
     let (record, mut counter) = (plan.record(), [segment.counter]);
-    let lists = segment.lists();
-    Refusal::check(library::fix(frames.bytes(), &record, domain.byte(), &mut counter, lists))?;
+    let (frames, domain, [first, i, last]) = (frames.bytes(), domain.byte(), segment.lists());
+    Refusal::check(library::fix(frames, &record, domain, &mut counter, first, i, last))?;
     segment.counter = counter[0];
     Ok(())
 }
@@ -54,7 +54,8 @@ pub fn fix(
 ///
 /// A refusal of the frames, the plan or the lists; then nothing has changed.
 pub fn query(frames: &Frames, plan: &Plan, segment: &mut Segment) -> Result<(), Refusal> {
-    Refusal::check(library::query(frames.bytes(), &plan.record(), segment.lists()))
+    let [first, i, last] = segment.lists();
+    Refusal::check(library::query(frames.bytes(), &plan.record(), first, i, last))
 }
 
 /// Gives every reference of a segment its dimension, the x kinds that of this pass.
@@ -68,7 +69,8 @@ pub fn dimension(
     dim_x: u16,
     segment: &mut Segment,
 ) -> Result<(), Refusal> {
-    Refusal::check(library::dimension(frames.bytes(), &plan.record(), dim_x, segment.lists()))
+    let [first, i, last] = segment.lists();
+    Refusal::check(library::dimension(frames.bytes(), &plan.record(), dim_x, first, i, last))
 }
 
 /// The same for a first list alone, where the x kinds have dimension 3.

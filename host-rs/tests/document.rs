@@ -1,7 +1,9 @@
 //! Document 01's examples.
 
 use enonkasse::search::search;
-use enonkasse::{Context, ExpressionId, Flags, Found, Frames, NodeKind, Pool, Refusal, Request};
+use enonkasse::{
+    Context, ExpressionId, Flags, Found, Frames, Literal, NodeKind, Pool, Refusal, Request,
+};
 
 /// The steps of one request for expression 0, and the temporary counter.
 fn run(pool: &Pool, fused: bool) -> (Vec<String>, usize) {
@@ -54,6 +56,18 @@ fn the_two_runs() {
 }
 
 #[test]
+fn the_whole_run_is_one_call() {
+    let pool = sum();
+    let asked = |request: Request| enonkasse::run::run(&pool.frames().with_requests(&[request]));
+    let done = asked(Request::of(ExpressionId(0)).fused()).unwrap();
+    let steps = done.first.steps(&pool.frames()).unwrap();
+    let steps = steps.iter().map(ToString::to_string).collect();
+    assert_eq!((steps, done.counter), lines(&["exp:0 = muladd cm:0 cm:1 const:0'"], 0));
+    assert_eq!(asked(Request::of(ExpressionId(0)).primed()), Err(Refusal::DoublePrime));
+    assert_eq!(asked(Request::of(ExpressionId(1))), Err(Refusal::NotThere));
+}
+
+#[test]
 fn of_two_products_the_first_is_fused() {
     let mut pool = Pool::new();
     let leaves = [0, 1, 2, 3].map(|id| pool.cm(id));
@@ -80,7 +94,7 @@ fn neg_is_a_sub_from_0_and_a_leaf_a_copy() {
 #[test]
 fn literals_are_shown() {
     let mut pool = Pool::new();
-    let leaf = pool.number(u64::MAX);
+    let leaf = pool.number(Literal::plus(u64::MAX));
     let sum = pool.addc(leaf, -7);
     let root = pool.mulc(sum, 3);
     pool.expression(root, Flags::NONE);
@@ -172,5 +186,5 @@ fn searches_of_leaves() {
         search(&pool.frames(), &[identity], 3, 3, 100)
     };
     assert_eq!(of(|pool| pool.cm(0)).map(|found| found.q), Ok(0));
-    assert_eq!(of(|pool| pool.number(5u64)), Err(Refusal::NoQuotient));
+    assert_eq!(of(|pool| pool.number(5)), Err(Refusal::NoQuotient));
 }

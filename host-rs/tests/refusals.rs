@@ -121,7 +121,7 @@ fn full_9() {
 #[test]
 fn evaluations_1_and_10() {
     let pool = pool(|pool| {
-        let (a, b) = (pool.cm(0), pool.number(7u64));
+        let (a, b) = (pool.cm(0), pool.number(7));
         pool.sub(b, a)
     });
     let frames = pool.frames();
@@ -156,7 +156,7 @@ fn searches_3_6_and_13_to_17() {
         pool.mul(product, c)
     });
     assert_eq!(of(cube), Some(13));
-    assert_eq!(of(pool(|pool| pool.number(-5i64))), Some(14));
+    assert_eq!(of(pool(|pool| pool.number(-5))), Some(14));
     assert_eq!(number(cm(), &[E0], [3, 3], 0), Some(15));
     assert_eq!(number(cm(), &[E0], [3, 2], 1000), Some(16));
     assert_eq!(number(cm(), &[E0], [25, 25], 1000), Some(16));

@@ -1,38 +1,15 @@
--- Rows 10 and 3 of document 01's table of refusals, for fixing, each as a person would state it.
+-- Rows 10, 3 and 9 of document 01's table of refusals, for fixing, each as a person would state it.
 -- Assumes nothing: these are definitions.
-use Prim.Native.Nat.{ℕ, _≤_}
+use Prim.Native.Nat.{ℕ, _≤_, _<_}
 use mathlib.Core.Path.{_≡_}
 use mathlib.Core.Bool.{true}
-use mathlib.Core.List.{List, [], _∷_, _++_}
-use mathlib.Core.Logic.{_⊎_}
-use lib.ListN.{length}
+use mathlib.Core.List.{List}
 use Rattle.kinds.specs.KindBytes as kind
-use Rattle.kinds.specs.StepOps.{isStep, sourcesNeeded}
 use Rattle.kinds.specs.declared.reference.Reference.{Reference}
-use Rattle.kinds.specs.declared.step.Step.{Step}
 use Rattle.meaning.specs.Trees.{Each}
-use Rattle.lists.specs.Records.{countedIn}
 use Rattle.lent_lists.specs.Records.{segmentIn, goodLists}
-use Rattle.fixing.specs.ProverCode.{lastCounter}
-
--- the first of a list that is not fine meets the condition
-pub record First {A : Type 0} (fine meets : A → Type 0) (xs : List A) : Type 0 where
-  pub before : List A
-  pub this : A
-  pub after : List A
-  pub splits : xs ≡ before ++ (this ∷ after)
-  pub fineBefore : Each fine before
-  pub itMeets : meets this
-
--- ---- what there is
-
--- the references of a record: its sources from left to right, then its destination
-abbrev pub referencesOf : Step → List Reference
-referencesOf x = countedIn x ++ (x .dest ∷ [])
-
--- the step byte is known, with sources enough
-abbrev pub HasStep : Step → Type 0
-HasStep x = (isStep (x .op) ≡ true) × (sourcesNeeded (x .op) ≤ x .count)
+use Rattle.lent_lists.specs.Conditions.{First, RecordRuled, ByReference, RecordNoRule}
+use Rattle.fixing.specs.ProverCode.{lastCounter, temporaries}
 
 -- nothing is malformed
 abbrev pub WellFormed : ℕ → List ℕ → List ℕ → List ℕ → Type 0
@@ -44,35 +21,35 @@ WellFormed counter first i last = (counter ≤ lastCounter) × (goodLists first 
 abbrev pub NoRule : Reference → Type 0
 NoRule r = (kind.tree1 ≤ r .kind) × (r .kind ≤ kind.Z)
 
-module _ (cms : List ℕ) where
-  -- a cm without a record in this domain
+-- by how many cm have a record in the domain
+module _ (cms : ℕ) where
+  -- a cm that has none
   abbrev pub NotThere : Reference → Type 0
-  NotThere r = (r .kind ≡ kind.cm) × (length cms ≤ r .id)
+  NotThere r = (r .kind ≡ kind.cm) × (cms ≤ r .id)
 
   abbrev pub Ruled : Reference → Type 0
   Ruled r = (NoRule r → ⊥) × (NotThere r → ⊥)
 
-  -- ---- a record
-
-  abbrev pub RecordRuled : Step → Type 0
-  RecordRuled x = HasStep x × Each Ruled (referencesOf x)
-
-  -- 10: no such step, or the first of its references that is not ruled has no rule
-  abbrev pub RecordNoRule : Step → Type 0
-  RecordNoRule x = (HasStep x → ⊥) ⊎ (HasStep x × First Ruled NoRule (referencesOf x))
-
-  -- 3: the first of its references that is not ruled is not there
-  abbrev pub RecordNotThere : Step → Type 0
-  RecordNotThere x = HasStep x × First Ruled NotThere (referencesOf x)
-
   -- ---- a segment
 
-  -- 10: nothing is malformed, and of the records of first, i and last the first that is not ruled has no rule
+  -- 10: nothing is malformed, and of the records of first, i and last the first that is not ruled has no such step, or a reference without a rule
   pub record Refused10 (counter : ℕ) (first i last : List ℕ) : Type 0 where
     pub wellFormed : WellFormed counter first i last
-    pub met : First RecordRuled RecordNoRule (segmentIn first i last)
+    pub met : First (RecordRuled Ruled) (RecordNoRule Ruled NoRule) (segmentIn first i last)
 
   -- 3: the same, and it names a cm that is not there
   pub record Refused3 (counter : ℕ) (first i last : List ℕ) : Type 0 where
     pub wellFormed : WellFormed counter first i last
-    pub met : First RecordRuled RecordNotThere (segmentIn first i last)
+    pub met : First (RecordRuled Ruled) (ByReference Ruled NotThere) (segmentIn first i last)
+
+  -- 9: nothing is malformed and every record is ruled, but the counter after the segment is no number of 16 bits
+  pub record Refused9 (rules : List ℕ) (counter : ℕ) (first i last : List ℕ) : Type 0 where
+    pub wellFormed : WellFormed counter first i last
+    pub ruled : Each (RecordRuled Ruled) (segmentIn first i last)
+    pub over : lastCounter < temporaries rules counter first i last .next
+
+  -- or it is one
+  pub record Accepted (rules : List ℕ) (counter : ℕ) (first i last : List ℕ) : Type 0 where
+    pub wellFormed : WellFormed counter first i last
+    pub ruled : Each (RecordRuled Ruled) (segmentIn first i last)
+    pub fits : temporaries rules counter first i last .next ≤ lastCounter

@@ -31,14 +31,14 @@ use Rattle.lent_lists.specs.Walks.{walked, recordVerdict}
 use Rattle.fixing.specs.ProverCode.{ruledReference, planOf, lastCounter, decided, temporaries, proverVerdict, listAfter}
 use Rattle.lists.specs.Decoding.{kindFrom, opFrom, refFrom, refsFrom, stepFrom, stepsFrom}
 use Rattle.lent_lists.specs.Laws.Walks.{ruled-append}
+use Rattle.lent_lists.specs.Exactly.{both-fine}
 use Rattle.fixing.specs.Laws.Joined.{reference-range, counted-good, fixed-records-say, list-fixed}
 
 first-is-fine : (v w : Verdict) → firstOf v w ≡ fine → v ≡ fine
-first-is-fine fine w h = refl
-first-is-fine malformed w h = h
-first-is-fine notThere w h = h
-first-is-fine noRule w h = h
-first-is-fine full w h = h
+first-is-fine v w h = both-fine v w h .0
+
+second-is-fine : (v w : Verdict) → firstOf v w ≡ fine → w ≡ fine
+second-is-fine v w h = both-fine v w h .1
 
 -- what is not refused is well formed
 pub accepted-good : (rules cms : List ℕ) (counter : ℕ) (first i last : List ℕ) → proverVerdict rules cms counter first i last ≡ fine → goodLists first i last ≡ true
@@ -48,16 +48,6 @@ accepted-good rules cms counter first i last h = go (leb counter lastCounter && 
     go : (b : Bool) → (leb counter lastCounter && goodLists first i last) ≡ b → only b malformed ≡ fine → goodLists first i last ≡ true
     go true e q = and-right (leb counter lastCounter) (goodLists first i last) e
     go false e q = absurd (let y : _≡_ {A = ℕ} 1 0 = ap verdictNo q in omega arith)
-
-second-is-fine : (v w : Verdict) → firstOf v w ≡ fine → w ≡ fine
-second-is-fine fine w h = h
-second-is-fine malformed w h = absurd (let y : _≡_ {A = ℕ} 1 0 = ap verdictNo h in omega arith)
-second-is-fine notThere w h = absurd (let y : _≡_ {A = ℕ} 3 0 = ap verdictNo h in omega arith)
-second-is-fine noRule w h = absurd (let y : _≡_ {A = ℕ} 10 0 = ap verdictNo h in omega arith)
-second-is-fine full w h = absurd (let y : _≡_ {A = ℕ} 9 0 = ap verdictNo h in omega arith)
-
-walked-split : (f : bytes.Step → Verdict) (xs ys : List bytes.Step) → walked f (xs ++ ys) ≡ firstOf (walked f xs) (walked f ys)
-walked-split = ruled-append
 
 records-good : (l : List ℕ) → goodList l ≡ true → goodRecords (recordsIn l) ≡ true
 unfolding goodList
@@ -181,8 +171,8 @@ module _ (literal : ℕ → Lit) where
       let g : (goodList first && (goodList i && goodList last)) ≡ true = three-good first i last (accepted-good rules cms counter first i last h) in
       let w = accepted-ruled rules cms counter first i last h in
       let f = recordVerdict (ruledReference cms) in
-      let e : firstOf (walked f (recordsIn first)) (walked f (recordsIn i ++ recordsIn last)) ≡ fine = sym (walked-split f (recordsIn first) (recordsIn i ++ recordsIn last)) ∙ w in
-      let e₂ : firstOf (walked f (recordsIn i)) (walked f (recordsIn last)) ≡ fine = sym (walked-split f (recordsIn i) (recordsIn last)) ∙ second-is-fine (walked f (recordsIn first)) (walked f (recordsIn i ++ recordsIn last)) e in
+      let e : firstOf (walked f (recordsIn first)) (walked f (recordsIn i ++ recordsIn last)) ≡ fine = sym (ruled-append f (recordsIn first) (recordsIn i ++ recordsIn last)) ∙ w in
+      let e₂ : firstOf (walked f (recordsIn i)) (walked f (recordsIn last)) ≡ fine = sym (ruled-append f (recordsIn i) (recordsIn last)) ∙ second-is-fine (walked f (recordsIn first)) (walked f (recordsIn i ++ recordsIn last)) e in
       let a = steps-say (ruledReference cms) (recordsIn first) (records-good first (and-left (goodList first) _ g)) (first-is-fine _ _ e) in
       let b = steps-say (ruledReference cms) (recordsIn i) (records-good i (and-left (goodList i) (goodList last) (and-right (goodList first) _ g))) (first-is-fine _ _ e₂) in
       let c = steps-say (ruledReference cms) (recordsIn last) (records-good last (and-right (goodList i) (goodList last) (and-right (goodList first) _ g))) (second-is-fine (walked f (recordsIn i)) (walked f (recordsIn last)) e₂) in

@@ -36,7 +36,11 @@ use Rattle.degree_search.specs.declared.search.Outcome.the-variants as outcome
 use Rattle.plan_map.specs.Whole.{mapSays, MapIs}
 use Rattle.plan_map.specs.declared.map.Mapping.{Mapping}
 use Rattle.plan_map.specs.declared.map.Mapping.the-variants as mapping
+use Rattle.requests.specs.Whole.{totals}
+use Rattle.requests.specs.Runs as runs
+use Rattle.requests.specs.declared.run.Outcome as run
 use Rattle.host.specs.Maps.{MapNumbered}
+use Rattle.host.specs.Runs.{totalsTold, RunNumbered}
 use Rattle.host.specs.Plans.{WalkNumbered, WalkCounted}
 use Rattle.host.specs.Searches.{searchedNo, outcomeNo, choiceTold, foundTold, ranTold, setIs, SearchNumbered}
 use Rattle.host.specs.Numbered.{FreshNumbered, ServeNumbered, BuildNumbered, EvaluateNumbered, sizesTold, cellsTold}
@@ -164,3 +168,8 @@ pub map-numbered :
     (s b o z : List ℕ) {o′ z′ : List ℕ} {r : Mapping} {n : ℕ} → MapIs s b o o′ r → n ≡ answerNo (mapSays r) → z′ ≡ cellsTold (mapSays r) z → MapNumbered s b o o′ z z′ n
 map-numbered s b o z g e h =
     (g .answer, g .goes, e ∙ ap answerNo (g .does .says) ∙ same-then (g .answer) length, g .does .room, h ∙ ap (λ t. cellsTold t z) (g .does .says))
+
+-- ── the whole run ────────────────────────────────────────────────────────────
+pub run-numbered :
+    (s l z : List ℕ) {l′ z′ : List ℕ} {r : run.Outcome} {n : ℕ} → runs.RunGiven s l l′ r → n ≡ answerNo (runs.outcomeSays r) → z′ ≡ totalsTold (runs.outcomeSays r) z → RunNumbered s l l′ z z′ n
+run-numbered s l z g e h = (g .answer, g .runs, e ∙ ap answerNo (g .says) ∙ same-then (g .answer) totals, g .list, h ∙ ap (λ t. totalsTold t z) (g .says))

@@ -3,3 +3,4 @@ pub mod Numbered
 pub mod Plans
 pub mod Maps
 pub mod Searches
+pub mod Runs

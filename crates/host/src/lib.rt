@@ -2,6 +2,7 @@
 // was done, else the refusal's, and then nothing lent has changed.
 pub mod map;
 pub mod plan;
+pub mod run;
 pub mod search;
 
 use codegen::asked::Wanted;

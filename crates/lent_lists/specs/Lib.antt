@@ -3,3 +3,5 @@ pub mod Verdicts
 pub mod Records
 pub mod Walks
 pub mod Laws
+pub mod Conditions
+pub mod Exactly

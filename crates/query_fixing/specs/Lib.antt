@@ -2,3 +2,5 @@
 pub mod QueryCode
 pub mod QueryAnswers
 pub mod Laws
+pub mod QueryConditions
+pub mod QueryExactly

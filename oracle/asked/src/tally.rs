@@ -1,11 +1,9 @@
 //! Many random questions: how they are answered, and whether something else answers the same.
 
 use crate::question::{Answer, Question};
+use crate::rows::{Rows, ACCEPTED};
 use judge::run::on_large_stack;
-use std::collections::{BTreeMap, BTreeSet};
 use std::fmt;
-
-const ACCEPTED: u8 = 0;
 
 /// A question and the row of the table that it is counted in.
 #[derive(Clone, Debug)]
@@ -23,10 +21,10 @@ impl<Q> Labelled<Q> {
 /// The questions of an index, or why there are none.
 pub type Questions<Q> = Result<Vec<Labelled<Q>>, String>;
 
-/// Answers by row: how many were accepted (under 0), and how many refused with each number.
+/// Answers by row, and what else is counted of those accepted.
 #[derive(Clone, Debug, Default, PartialEq, Eq)]
 pub struct Tally<C> {
-    rows: BTreeMap<String, BTreeMap<u8, u64>>,
+    pub rows: Rows,
     pub counts: C,
 }
 
@@ -38,12 +36,12 @@ impl<C> Tally<C> {
         if number == ACCEPTED {
             answer.count_in(&mut self.counts);
         }
-        *self.rows.entry(label).or_default().entry(number).or_default() += 1;
+        self.rows.count(&label, number);
     }
 
     /// How many questions of a row were refused with a number.
     pub fn refused(&self, label: &str, number: u8) -> u64 {
-        self.rows.get(label).and_then(|row| row.get(&number)).copied().unwrap_or(0)
+        self.rows.of(label, number)
     }
 
     pub fn accepted(&self, label: &str) -> u64 {
@@ -114,20 +112,6 @@ fn each<Q: Question>(
 
 impl<C: fmt::Display> fmt::Display for Tally<C> {
     fn fmt(&self, f: &mut fmt::Formatter<'_>) -> fmt::Result {
-        let numbers: BTreeSet<u8> =
-            self.rows.values().flat_map(|row| row.keys().copied()).collect();
-        let numbers: Vec<u8> = numbers.into_iter().filter(|&number| number != ACCEPTED).collect();
-        write!(f, "| {:<24} | {:>8} | {:>8} |", "Asked", "Runs", "Accepted")?;
-        numbers.iter().try_for_each(|number| write!(f, " {:>6} |", number))?;
-        writeln!(f, "\n|---|---|---|{}", "---|".repeat(numbers.len()))?;
-        for (label, row) in &self.rows {
-            let runs: u64 = row.values().sum();
-            write!(f, "| {:<24} | {:>8} | {:>8} |", label, runs, self.accepted(label))?;
-            for &number in &numbers {
-                write!(f, " {:>6} |", self.refused(label, number))?;
-            }
-            writeln!(f)?;
-        }
-        write!(f, "\n{}", self.counts)
+        write!(f, "{}\n{}", self.rows, self.counts)
     }
 }

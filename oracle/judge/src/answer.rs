@@ -63,6 +63,11 @@ impl StepBytes {
         Ok(StepBytes(bytes))
     }
 
+    /// A step that is encoded already.
+    pub fn encoded(bytes: Vec<u8>) -> StepBytes {
+        StepBytes(bytes)
+    }
+
     pub fn bytes(&self) -> &[u8] {
         &self.0
     }
@@ -86,7 +91,7 @@ fn write_reference(node: &code::Node, bytes: &mut Vec<u8>) -> Result<(), String>
     bytes.push(u8::from(node.prime));
     match (kind, &node.value) {
         (Kind::NUMBER, Some(text)) => {
-            Literal::from_decimal(text).ok_or_else(fault)?.write(bytes);
+            bytes.extend(Literal::from_decimal(text).ok_or_else(fault)?.bytes());
             Ok(())
         }
         (Kind::NUMBER, None) | (_, Some(_)) => Err(fault()),

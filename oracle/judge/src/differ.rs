@@ -38,6 +38,14 @@ pub struct Difference {
     pub text: String,
 }
 
+/// The input as frames, and how the answers differ.
+impl fmt::Display for Difference {
+    fn fmt(&self, f: &mut fmt::Formatter<'_>) -> fmt::Result {
+        writeln!(f, "run {} differs, and so does this one:", self.index)?;
+        write!(f, "{}{}", self.script.frames(), self.text)
+    }
+}
+
 /// Compares on the random inputs 0 to `count` - 1 of a seed, to the first that differs. That
 /// one is the same however the work was shared, since lower numbers are always finished.
 pub fn differ(

@@ -122,9 +122,7 @@ fn compare(program: &str, seed: &str, count: &str) -> Done {
         None => return Ok(ExitCode::SUCCESS),
         Some(found) => found,
     };
-    eprintln!("run {} of seed {} differs, and so does this one:", found.index, seed);
-    eprint!("{}", found.script.frames());
-    eprintln!("{}", found.text);
+    eprintln!("{}", found);
     Ok(ExitCode::from(DIFFERENT))
 }
 

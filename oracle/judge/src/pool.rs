@@ -5,7 +5,7 @@
 
 use crate::hex::Reader;
 use crate::kinds::Kind;
-use crate::literal::Literal;
+use crate::literal::{self, Literal};
 
 pub const NODE_FRAME: u8 = 0x01;
 pub const EXPRESSION_FRAME: u8 = 0x02;
@@ -65,7 +65,7 @@ impl Node {
         let id = reader.u16()?;
         let count = reader.u8()?;
         let children = (0..count).map(|_| reader.u16()).collect::<Result<_, _>>()?;
-        let literal = if kind.has_literal() { Some(Literal::read(&mut reader)?) } else { None };
+        let literal = if kind.has_literal() { Some(literal::read(&mut reader)?) } else { None };
         reader.end()?;
         Ok(Node { kind, next, id, children, literal })
     }
@@ -76,7 +76,7 @@ impl Node {
         bytes.push(self.children.len() as u8);
         bytes.extend(self.children.iter().flat_map(|child| child.to_be_bytes()));
         if let Some(literal) = self.literal {
-            literal.write(&mut bytes);
+            bytes.extend(literal.bytes());
         }
         bytes
     }

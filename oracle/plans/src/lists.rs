@@ -14,7 +14,7 @@ use asked::text::number;
 use judge::answer::StepBytes;
 use judge::hex::Reader;
 use judge::kinds::{self, Kind};
-use judge::literal::Literal;
+use judge::literal::{self, Literal};
 use original::starkinfo_codegen as code;
 use std::fmt;
 
@@ -56,7 +56,7 @@ impl Reference {
         let id = usize::from(reader.u16()?);
         let prime = reader.bit("a prime")?;
         let literal = match kind {
-            Kind::NUMBER => Some(Literal::read(reader)?),
+            Kind::NUMBER => Some(literal::read(reader)?),
             _ => None,
         };
         Ok(Reference { prime, literal, ..Reference::new(kind, id) })

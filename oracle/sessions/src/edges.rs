@@ -1,8 +1,6 @@
 //! The evaluator on each side of each edge: its numbers, its values, and that a refusal changes nothing lent.
 
-use crate::evaluation::{SECTIONS, VALUED};
-use crate::library::evaluate;
-use crate::record::STEP;
+use enonkasse_sys::{evaluate, CELL_SIZE, STEP_SIZE, VALUE_PARTS};
 use judge::kinds::{Kind, Step};
 
 const MALFORMED: u8 = 1;
@@ -66,7 +64,7 @@ fn record(step: u8, count: u8, references: &[Reference]) -> Vec<u8> {
         bytes.extend([0; 6]);
         bytes.extend(reference.extra.to_be_bytes());
     }
-    bytes.resize(STEP, 0);
+    bytes.resize(STEP_SIZE, 0);
     bytes
 }
 
@@ -79,7 +77,7 @@ fn copy(destination: Reference, source: Reference) -> Vec<u8> {
     step(Step::COPY, &[destination, source])
 }
 
-fn words(sections: [&[u64]; SECTIONS]) -> Vec<u64> {
+fn words(sections: [&[u64]; VALUE_PARTS]) -> Vec<u64> {
     let sizes = sections.iter().map(|section| section.len() as u64);
     sizes.chain(sections.into_iter().flatten().copied()).collect()
 }
@@ -109,7 +107,7 @@ struct Call {
 
 impl Call {
     fn new(steps: &[Vec<u8>]) -> Call {
-        let room = VALUED * steps.len();
+        let room = CELL_SIZE * steps.len();
         Call {
             frames: framed(&POOL),
             list: steps.concat(),
@@ -131,7 +129,7 @@ impl Call {
             return Err(number);
         }
         let value = |bytes: &[u8]| u64::from_be_bytes(bytes[4..].try_into().unwrap());
-        Ok(out.chunks(VALUED).take(cells[0]).map(value).collect())
+        Ok(out.chunks(CELL_SIZE).take(cells[0]).map(value).collect())
     }
 }
 
@@ -213,9 +211,9 @@ fn a_record_cut_short_is_malformed() {
     assert_eq!(call.answer(), Ok(vec![10, 10]));
     call.list.pop();
     assert_eq!(call.answer(), Err(MALFORMED));
-    call.list.truncate(STEP + 1);
+    call.list.truncate(STEP_SIZE + 1);
     assert_eq!(call.answer(), Err(MALFORMED));
-    call.list.truncate(STEP);
+    call.list.truncate(STEP_SIZE);
     assert_eq!(call.answer(), Ok(vec![10]));
     call.list.clear();
     assert_eq!(call.answer(), Ok(vec![]));
@@ -268,11 +266,11 @@ fn values_that_do_not_fill_their_sections_are_malformed() {
     let call = Call::new(&[copy(cell(TMP, 0), number(0))]);
     let with = |values: Vec<u64>| Call { values, ..call.clone() }.answer();
     assert_eq!(with(given()), Ok(vec![7]));
-    assert_eq!(with(words([&[]; SECTIONS])), Ok(vec![7]));
-    for size in 0..SECTIONS {
+    assert_eq!(with(words([&[]; VALUE_PARTS])), Ok(vec![7]));
+    for size in 0..VALUE_PARTS {
         assert_eq!(with(vec![0; size]), Err(MALFORMED), "a header of {} words", size);
     }
-    for section in 0..SECTIONS {
+    for section in 0..VALUE_PARTS {
         for size in [given()[section] + 1, given()[section] - 1, u64::MAX] {
             let mut values = given();
             values[section] = size;
@@ -336,12 +334,12 @@ fn an_unknown_step_or_too_few_sources_have_no_rule() {
 fn a_room_one_byte_short_is_full() {
     let steps = [copy(cell(TMP, 0), number(0)), copy(cell(TMP, 1), number(0))];
     for (room, answer) in
-        [(2 * VALUED, Ok(vec![7, 7])), (2 * VALUED - 1, Err(FULL)), (0, Err(FULL))]
+        [(2 * CELL_SIZE, Ok(vec![7, 7])), (2 * CELL_SIZE - 1, Err(FULL)), (0, Err(FULL))]
     {
         assert_eq!(Call { room, ..Call::new(&steps) }.answer(), answer);
     }
     let again = [copy(cell(TMP, 0), number(0)), copy(cell(TMP, 0), number(1))];
-    assert_eq!(Call { room: VALUED, ..Call::new(&again) }.answer(), Ok(vec![65_534]));
+    assert_eq!(Call { room: CELL_SIZE, ..Call::new(&again) }.answer(), Ok(vec![65_534]));
 }
 
 #[test]
@@ -379,7 +377,7 @@ fn cells_of_one_id_are_apart() {
 #[test]
 fn refusals_come_in_their_order() {
     let leaf = "011000000000";
-    let bad_list = vec![0; STEP];
+    let bad_list = vec![0; STEP_SIZE];
     let good = copy(cell(TMP, 0), number(0));
     let unruled = copy(cell(TMP, 0), cell(TMP, 1));
     for (label, lines, number) in [

@@ -1,7 +1,6 @@
 //! A list evaluated by the library, and the pool's trees evaluated here, from the same values.
 
-use crate::library;
-use crate::record::STEP;
+use enonkasse_sys::{self as library, CELL_SIZE, ROWS, STEP_SIZE, VALUE_PARTS};
 use judge::kinds::Kind;
 use judge::pool::{Node, Pool};
 use judge::random::Random;
@@ -11,20 +10,13 @@ use std::collections::{HashMap, HashSet};
 /// 2, 3, 2^16 + 1, 2^31 - 1, 2^32 - 5, 2^32 - 1.
 const MODULI: [u32; 6] = [2, 3, 65_537, 2_147_483_647, 4_294_967_291, 4_294_967_295];
 
-/// Bytes of a cell and its value: kind, prime, id (2), value (8).
-pub const VALUED: usize = 12;
-
 /// Kind, prime, id (2).
 const CELL: usize = 4;
 
-/// The sections of the given values: cm, const, q, public, challenge, eval, x kinds.
-pub const SECTIONS: usize = 7;
-const ROW_SECTIONS: usize = 3;
+/// Parts of the given values: cm, const and q have two rows; the x kinds come last.
+const ROW_PARTS: usize = 3;
 const XS: usize = 6;
 const X_KINDS: [Kind; 3] = [Kind::X_DIV_X_SUB_XI, Kind::X_DIV_X_SUB_WXI, Kind::X];
-
-/// This row and the next.
-const ROWS: usize = 2;
 
 /// Bytes of room behind the last cell, which must not change.
 const SPARE: usize = 5;
@@ -38,6 +30,8 @@ pub struct Evaluated {
     pub cells: u64,
     pub expressions: u64,
     pub requested: u64,
+    /// Rooms that were one byte short.
+    pub short: u64,
 }
 
 impl Evaluated {
@@ -46,6 +40,7 @@ impl Evaluated {
         self.cells += other.cells;
         self.expressions += other.expressions;
         self.requested += other.requested;
+        self.short += other.short;
     }
 }
 
@@ -64,18 +59,18 @@ fn words_of(node: &Node) -> Option<(usize, usize, usize)> {
             return Some((XS, place, 1));
         }
     };
-    if section < ROW_SECTIONS {
+    if section < ROW_PARTS {
         return Some((section, ROWS * id, ROWS));
     }
     Some((section, id, 1))
 }
 
 /// The given values: each leaf of the pool has its words, and no section is longer than that.
-struct Given([Vec<u64>; SECTIONS]);
+pub struct Given([Vec<u64>; VALUE_PARTS]);
 
 impl Given {
-    fn random(pool: &Pool, random: &mut Random) -> Given {
-        let mut sections: [Vec<u64>; SECTIONS] = Default::default();
+    pub fn random(pool: &Pool, random: &mut Random) -> Given {
+        let mut sections: [Vec<u64>; VALUE_PARTS] = Default::default();
         for (section, at, count) in pool.nodes().iter().filter_map(words_of) {
             let words = &mut sections[section];
             words.resize(words.len().max(at + count), 0);
@@ -85,7 +80,7 @@ impl Given {
     }
 
     /// The sizes, then the sections.
-    fn words(&self) -> Vec<u64> {
+    pub fn words(&self) -> Vec<u64> {
         let sizes = self.0.iter().map(|section| section.len() as u64);
         sizes.chain(self.0.iter().flatten().copied()).collect()
     }
@@ -144,7 +139,7 @@ impl Trees<'_> {
 fn written(list: &[u8]) -> Vec<[u8; CELL]> {
     let mut seen = HashSet::new();
     let mut cells = Vec::new();
-    for record in list.chunks(STEP) {
+    for record in list.chunks(STEP_SIZE) {
         let mut cell = [record[4], record[5], record[6], record[7]];
         if cell[0] == Kind::TMP.byte() {
             cell[1] = 0;
@@ -197,6 +192,7 @@ pub fn compare(
             evaluated.requested += 1;
         }
         evaluated.evaluations += 1;
+        evaluated.short += u64::from(!cells.is_empty());
         evaluated.cells += cells.len() as u64;
     }
     Ok(evaluated)
@@ -210,7 +206,7 @@ fn answer(
     values: &[u64],
     cells: &[[u8; CELL]],
 ) -> Result<Vec<u64>, String> {
-    let size = VALUED * cells.len();
+    let size = CELL_SIZE * cells.len();
     let mut out = vec![UNWRITTEN; size + SPARE];
     let mut count = [usize::MAX];
     if size > 0 {
@@ -227,7 +223,7 @@ fn answer(
     if out[size..].iter().any(|&byte| byte != UNWRITTEN) {
         return Err("what follows the last cell has changed".to_string());
     }
-    let valued = out[..size].chunks(VALUED).zip(cells).map(|(bytes, cell)| {
+    let valued = out[..size].chunks(CELL_SIZE).zip(cells).map(|(bytes, cell)| {
         let value = u64::from_be_bytes(bytes[CELL..].try_into().expect("eight bytes"));
         Some(value).filter(|&value| bytes[..CELL] == *cell && value < u64::from(modulus))
     });

@@ -1,6 +1,6 @@
 //! The bytes that the port answers for `map`, read as what the original holds.
 
-use crate::library;
+use enonkasse_sys as library;
 use judge::hex::Reader;
 use plans::mapped::{BySection, Column, Mapped, Record, Widths};
 use plans::question::Answer;

@@ -2,7 +2,7 @@
 //! vectors.
 
 use crate::planned::{Lent, Port, Sent, Stage};
-use crate::record::STEP;
+use enonkasse_sys::STEP_SIZE;
 use judge::case::{add, cm, constant, exp, leaf, mul, neg};
 use judge::kinds::Kind;
 use judge::pool::MAX_NODES;
@@ -113,8 +113,8 @@ fn a_counter_that_would_pass_16_bits_is_full() {
 
 #[test]
 fn a_list_is_of_whole_records() {
-    for size in 0..=STEP {
-        let expected = if size % STEP == 0 { 0 } else { MALFORMED };
+    for size in 0..=STEP_SIZE {
+        let expected = if size % STEP_SIZE == 0 { 0 } else { MALFORMED };
         for stage in STAGES {
             for place in 0..stage.lists() {
                 let mut lent = lent();

@@ -1,20 +1,20 @@
 //! The port's answers to questions about plans: its exported functions on a question's bytes, and
 //! what stands after each of them.
 
-use crate::library;
 use crate::maps;
-use crate::record::{framed, u16_at, REFERENCE, STEP};
+use crate::record::{framed, u16_at};
 use crate::spoiled::Fault;
 use crate::spread;
+use asked::rows::Rows;
+use enonkasse_sys::{self as library, REFERENCE_SIZE, STEP_SIZE};
 use judge::kinds::Kind;
 use judge::literal::Literal;
 use judge::random::Random;
 use plans::input::Input;
 use plans::lists::{Reference, Segment, Step, MAX_SOURCES};
 use plans::question::{Answer, Question};
-use plans::tally::{questions_on, Questions, Said};
+use plans::tally::{questions_on, Questions, Said, Tally};
 use plans::walks::{Domain, Walk};
-use std::collections::BTreeMap;
 use std::sync::Mutex;
 
 /// One input of so many has its expressions and columns spread.
@@ -40,10 +40,18 @@ pub fn questions(seed: u64, index: u64) -> Questions {
 /// The exported functions, and how often something wrong was lent to them.
 #[derive(Default)]
 pub struct Port {
-    pub faults: Mutex<BTreeMap<String, u64>>,
+    pub faults: Mutex<Rows>,
 }
 
+/// What was compared, and the first difference.
+pub type Compared = Result<(Tally, Option<String>), String>;
+
 impl Port {
+    /// Compares so many random plans, and the walks by them, with the original.
+    pub fn compare(&self, seed: u64, count: u64) -> Compared {
+        plans::tally::compare(seed, count, questions, |question| self.say(question))
+    }
+
     /// To `map` and to a walk; the others are not exported.
     pub fn say(&self, question: &Question) -> Said {
         match question {
@@ -102,7 +110,7 @@ impl Port {
             return Err(format!("with {:?}: the answer is {}, not {}\n", fault, number, expected));
         }
         let name = format!("{}, {:?}", name, fault);
-        *self.faults.lock().expect("a tally").entry(name).or_default() += 1;
+        self.faults.lock().expect("a tally").count(&name, number);
         Ok(())
     }
 }
@@ -136,12 +144,12 @@ impl Stage {
     }
 
     pub fn call(self, lent: &mut Lent) -> u8 {
-        let Lent { frames, plan, counter, lists } = lent;
+        let Lent { frames, plan, counter, lists: [first, i, last] } = lent;
         match self {
-            Stage::Fix(domain) => library::fix(frames, plan, domain, counter, lists),
-            Stage::Query => library::query(frames, plan, lists),
-            Stage::Dimension(dim_x) => library::dimension(frames, plan, dim_x, lists),
-            Stage::DimensionFirst => library::dimension_first(frames, plan, &mut lists[0]),
+            Stage::Fix(domain) => library::fix(frames, plan, domain, counter, first, i, last),
+            Stage::Query => library::query(frames, plan, first, i, last),
+            Stage::Dimension(dim_x) => library::dimension(frames, plan, dim_x, first, i, last),
+            Stage::DimensionFirst => library::dimension_first(frames, plan, first),
         }
     }
 }
@@ -206,19 +214,23 @@ impl Sent {
             return Err("frames or plan have changed\n".to_string());
         }
         let list = |place: usize| {
-            let (after, before) = (lent.lists[place].chunks(STEP), &self.lent.lists[place]);
-            after.zip(before.chunks(STEP)).map(|(a, b)| self.step(a, b)).collect::<Result<_, _>>()
+            let (after, before) = (lent.lists[place].chunks(STEP_SIZE), &self.lent.lists[place]);
+            after
+                .zip(before.chunks(STEP_SIZE))
+                .map(|(a, b)| self.step(a, b))
+                .collect::<Result<_, _>>()
         };
         Ok(Segment { counter: lent.counter[0], first: list(0)?, i: list(1)?, last: list(2)? })
     }
 
     /// Step, source count, origin and what stands behind the last source stay as they are.
     fn step(&self, after: &[u8], before: &[u8]) -> Result<Step, String> {
-        let end = 4 + REFERENCE * (1 + usize::from(before[1]));
+        let end = 4 + REFERENCE_SIZE * (1 + usize::from(before[1]));
         if after[..4] != before[..4] || after[end..] != before[end..] {
             return Err(format!("{:02x?} has become {:02x?}\n", before, after));
         }
-        let mut references = after[4..end].chunks(REFERENCE).map(|bytes| self.reference(bytes));
+        let mut references =
+            after[4..end].chunks(REFERENCE_SIZE).map(|bytes| self.reference(bytes));
         let dest = references.next().expect("a destination")?;
         Ok(Step { op: after[0], dest, src: references.collect::<Result<_, _>>()? })
     }
@@ -253,7 +265,7 @@ fn record(place: usize, step: &Step, literals: &mut Vec<Literal>) -> Vec<u8> {
     push_reference(&mut bytes, &step.dest, literals);
     assert!(step.src.len() <= MAX_SOURCES);
     step.src.iter().for_each(|source| push_reference(&mut bytes, source, literals));
-    bytes.resize(STEP, BEHIND);
+    bytes.resize(STEP_SIZE, BEHIND);
     bytes
 }
 

@@ -1,25 +1,16 @@
 //! The port's records in bytes, read as what the original says of the same things.
 
+use enonkasse_sys::{
+    BLOCKS_AT, BLOCK_COUNT_AT, BLOCK_SIZE, MARKS_AT, MAX_SOURCES, REFERENCE_SIZE, ROWS,
+    STEP_COUNT_AT, TEMPORARY_COUNT_AT,
+};
 use judge::answer::{Block, State};
 use judge::kinds::Kind;
 use judge::literal::Literal;
-use judge::pool::{Expression, Node, Pool, MAX_EXPRESSIONS};
+use judge::pool::{Expression, Node, Pool};
 
-/// Bytes of a step in a list: step, source count, origin (2), destination and three sources.
-pub const STEP: usize = 4 + 4 * REFERENCE;
-
-/// Kind, prime, id (2), dimension (2), p (2), tree position (2), extra (2).
-pub const REFERENCE: usize = 12;
-
-/// Places in a context.
-const HEAD: [u8; 4] = [0, 0, 2, 0];
-const BLOCKS_AT: usize = 4;
-const STEPS_AT: usize = 6;
-const COUNTER_AT: usize = 8;
-const MARKS_AT: usize = 10;
-const ROWS: usize = 2;
-const TABLE_AT: usize = MARKS_AT + ROWS * MAX_EXPRESSIONS;
-const ENTRY: usize = 6;
+/// What a context begins with: version, mode, rows, a spare byte.
+const HEAD: [u8; 4] = [0, 0, ROWS as u8, 0];
 
 /// Frames as they are lent, each behind its length.
 pub fn framed(frames: impl IntoIterator<Item = Vec<u8>>) -> Vec<u8> {
@@ -45,7 +36,7 @@ pub fn u16_at(bytes: &[u8], at: usize) -> usize {
 /// None where a record has what generation does not make.
 pub fn encoded(record: &[u8], pool: &Pool) -> Option<Vec<u8>> {
     let (step, count) = (record[0], usize::from(record[1]));
-    let mut references = record[4..].chunks(REFERENCE);
+    let mut references = record[4..].chunks(REFERENCE_SIZE);
     let mut bytes = vec![step];
     push_reference(references.next()?, pool, &mut bytes)?;
     bytes.push(record[1]);
@@ -56,7 +47,7 @@ pub fn encoded(record: &[u8], pool: &Pool) -> Option<Vec<u8>> {
             return None;
         }
     }
-    Some(bytes).filter(|_| count <= 3)
+    Some(bytes).filter(|_| count <= MAX_SOURCES)
 }
 
 fn push_reference(record: &[u8], pool: &Pool, bytes: &mut Vec<u8>) -> Option<()> {
@@ -68,7 +59,7 @@ fn push_reference(record: &[u8], pool: &Pool, bytes: &mut Vec<u8>) -> Option<()>
     if kind != Kind::NUMBER.byte() {
         return Some(()).filter(|_| extra == 0);
     }
-    literal_of(pool, extra)?.write(bytes);
+    bytes.extend(literal_of(pool, extra)?.bytes());
     Some(())
 }
 
@@ -83,16 +74,17 @@ fn literal_of(pool: &Pool, node: usize) -> Option<Literal> {
 
 /// What a context says, and how many steps. None where it has what no context of this pool has.
 pub fn said(context: &[u8], expressions: usize) -> Option<(State, Vec<Block>, usize)> {
-    let marks = &context[MARKS_AT..TABLE_AT];
+    let marks = &context[MARKS_AT..BLOCKS_AT];
     let is_strange =
         |(cell, &mark): (usize, &u8)| mark > 1 || mark != 0 && cell / ROWS >= expressions;
-    if context[..BLOCKS_AT] != HEAD || marks.iter().enumerate().any(is_strange) {
+    if context[..HEAD.len()] != HEAD || marks.iter().enumerate().any(is_strange) {
         return None;
     }
     let row = |row: usize| (0..expressions).map(|e| marks[ROWS * e + row] != 0).collect();
-    let state = State { counter: u16_at(context, COUNTER_AT), plain: row(0), primed: row(1) };
+    let state =
+        State { counter: u16_at(context, TEMPORARY_COUNT_AT), plain: row(0), primed: row(1) };
     let entry = |k: usize| {
-        let at = TABLE_AT + ENTRY * k;
+        let at = BLOCKS_AT + BLOCK_SIZE * k;
         let prime = u16_at(context, at + 2);
         let block = |prime| Block {
             expression: u16_at(context, at),
@@ -101,6 +93,6 @@ pub fn said(context: &[u8], expressions: usize) -> Option<(State, Vec<Block>, us
         };
         Some(block(prime == 1)).filter(|_| prime < ROWS)
     };
-    let blocks = (0..u16_at(context, BLOCKS_AT)).map(entry).collect::<Option<_>>()?;
-    Some((state, blocks, u16_at(context, STEPS_AT)))
+    let blocks = (0..u16_at(context, BLOCK_COUNT_AT)).map(entry).collect::<Option<_>>()?;
+    Some((state, blocks, u16_at(context, STEP_COUNT_AT)))
 }

@@ -1,19 +1,15 @@
 //! Bad input to the exported functions: each gets its number, and nothing lent has changed.
 
-use crate::library::{build, fresh, serve, CONTEXT};
-use crate::record::STEP;
+use enonkasse_sys::{
+    build, fresh, serve, BLOCKS_AT, BLOCK_COUNT_AT, BLOCK_SIZE, CONTEXT_SIZE, MARKS_AT,
+    STEP_COUNT_AT, STEP_SIZE, TEMPORARY_COUNT_AT,
+};
 
 const MALFORMED: u8 = 1;
 const NOT_THERE: u8 = 3;
 const NO_PRIMED_MARK: u8 = 7;
 const NO_BLOCK: u8 = 8;
 const FULL: u8 = 9;
-
-/// Places in a context.
-const COUNTS: [usize; 3] = [4, 6, 8];
-const MARKS: usize = 10;
-const TABLE: usize = 1034;
-const ENTRY: usize = 6;
 
 /// cm0·cm1 + cm2, two expressions, and requests.
 const POOL: [&str; 8] = [
@@ -52,7 +48,8 @@ struct Lent {
 
 impl Lent {
     fn new(steps: usize) -> Lent {
-        let mut lent = Lent { context: vec![0xa5; CONTEXT], list: vec![0xa5; steps * STEP] };
+        let mut lent =
+            Lent { context: vec![0xa5; CONTEXT_SIZE], list: vec![0xa5; steps * STEP_SIZE] };
         assert_eq!(fresh(&mut lent.context), 0);
         lent
     }
@@ -68,7 +65,8 @@ impl Lent {
         let before = self.clone();
         let mut lists = rooms.map(|room| vec![0xa5; room]);
         let mut sizes = [usize::MAX; 3];
-        let number = build(&frames(&[]), &mut self.context, &self.list, &mut lists, &mut sizes);
+        let ([first, i, last], frames) = (&mut lists, frames(&[]));
+        let number = build(&frames, &mut self.context, &self.list, first, i, last, &mut sizes);
         let untouched = rooms.map(|room| vec![0xa5; room]);
         let kept = *self == before && lists == untouched && sizes == [usize::MAX; 3];
         assert!(number == 0 || kept, "a refusal with {} changed what was lent", number);
@@ -89,18 +87,18 @@ fn served() -> Lent {
 
 fn is_refused(label: &str, lent: Lent) {
     assert_eq!(lent.clone().serves(&[FUSED], 0, 0), MALFORMED, "{}", label);
-    assert_eq!(lent.clone().builds([8 * STEP; 3]), MALFORMED, "{}", label);
+    assert_eq!(lent.clone().builds([8 * STEP_SIZE; 3]), MALFORMED, "{}", label);
 }
 
 #[test]
 fn a_good_context_is_taken() {
     assert_eq!(served().serves(&[PRIMED], 0, 0), 0);
-    assert_eq!(served().builds([2 * STEP; 3]), 0);
+    assert_eq!(served().builds([2 * STEP_SIZE; 3]), 0);
 }
 
 #[test]
 fn a_context_of_another_size_is_malformed() {
-    for size in [0, CONTEXT - 1, CONTEXT + 1] {
+    for size in [0, CONTEXT_SIZE - 1, CONTEXT_SIZE + 1] {
         let mut lent = served();
         lent.context.resize(size, 0);
         assert_eq!(fresh(&mut lent.context.clone()), MALFORMED);
@@ -110,28 +108,28 @@ fn a_context_of_another_size_is_malformed() {
 
 #[test]
 fn a_context_with_a_bad_byte_is_malformed() {
-    let second = TABLE + ENTRY;
-    let marks_past_the_pool = MARKS + 4;
+    let second = BLOCKS_AT + BLOCK_SIZE;
+    let marks_past_the_pool = MARKS_AT + 4;
     for (label, at, byte) in [
         ("version", 0, 1),
         ("mode", 1, 1),
         ("rows", 2, 3),
         ("spare", 3, 1),
-        ("a mark of 2", MARKS + 1, 2),
+        ("a mark of 2", MARKS_AT + 1, 2),
         ("a mark beyond the pool", marks_past_the_pool, 1),
-        ("a mark of the last cell", TABLE - 1, 1),
-        ("a block without its mark", MARKS, 0),
+        ("a mark of the last cell", BLOCKS_AT - 1, 1),
+        ("a block without its mark", MARKS_AT, 0),
     ] {
         let mut lent = served();
         lent.context[at] = byte;
         is_refused(label, lent);
     }
     for (label, at, number) in [
-        ("more blocks than cells", COUNTS[0], 1025),
-        ("a block more than there is", COUNTS[0], 3),
-        ("a block fewer than there is", COUNTS[0], 1),
-        ("steps past the list", COUNTS[1], 9),
-        ("steps that do not add up", COUNTS[1], 3),
+        ("more blocks than cells", BLOCK_COUNT_AT, 1025),
+        ("a block more than there is", BLOCK_COUNT_AT, 3),
+        ("a block fewer than there is", BLOCK_COUNT_AT, 1),
+        ("steps past the list", STEP_COUNT_AT, 9),
+        ("steps that do not add up", STEP_COUNT_AT, 3),
         ("an expression that is not there", second, 2),
         ("a prime that is no row", second + 2, 2),
         ("a block of no step", second + 4, 0),
@@ -146,11 +144,11 @@ fn a_context_with_a_bad_byte_is_malformed() {
 #[test]
 fn what_a_context_does_not_say_may_be_anything() {
     let mut lent = served();
-    lent.context[TABLE + 2 * ENTRY..].fill(0xff);
+    lent.context[BLOCKS_AT + 2 * BLOCK_SIZE..].fill(0xff);
     lent.list.fill(0xff);
     assert_eq!(lent.serves(&[PRIMED], 0x10, 7), NO_PRIMED_MARK);
     assert_eq!(lent.serves(&[PRIMED], 0, 0), 0);
-    assert_eq!(lent.builds([3 * STEP; 3]), 0);
+    assert_eq!(lent.builds([3 * STEP_SIZE; 3]), 0);
 }
 
 #[test]
@@ -170,7 +168,7 @@ fn a_result_needs_a_mark_or_a_block() {
     assert_eq!(Lent::new(8).serves(&[PRIMED], 0x10, 0), NO_PRIMED_MARK);
     assert_eq!(Lent::new(8).serves(&[PRIMED, PRIMED], 0x10, 0), 0);
     let mut built = served();
-    assert_eq!(built.builds([2 * STEP; 3]), 0);
+    assert_eq!(built.builds([2 * STEP_SIZE; 3]), 0);
     assert_eq!(built.serves(&[FUSED], 0x10, 0), NO_BLOCK);
     assert_eq!(built.serves(&[FUSED], 0, 0), 0);
 }
@@ -201,7 +199,7 @@ fn a_list_too_short_by_one_byte_is_full() {
         (&[FUSED, OTHER][..], 0, 2),
         (&[FUSED, OTHER, FUSED][..], 0x10, 3),
     ] {
-        for (size, number) in [(steps * STEP, 0), (steps * STEP - 1, FULL)] {
+        for (size, number) in [(steps * STEP_SIZE, 0), (steps * STEP_SIZE - 1, FULL)] {
             let mut lent = Lent::new(steps);
             lent.list.truncate(size);
             assert_eq!(lent.serves(requests, kind, 0), number, "{:?}", requests);
@@ -212,7 +210,7 @@ fn a_list_too_short_by_one_byte_is_full() {
 #[test]
 fn each_list_of_a_build_too_short_by_one_byte_is_full() {
     for short in 0..3 {
-        let mut rooms = [2 * STEP; 3];
+        let mut rooms = [2 * STEP_SIZE; 3];
         rooms[short] -= 1;
         assert_eq!(served().builds(rooms), FULL);
     }
@@ -222,7 +220,7 @@ fn each_list_of_a_build_too_short_by_one_byte_is_full() {
 fn a_counter_of_more_than_16_bits_is_full() {
     for (request, number) in [(FUSED, 0), (PLAIN, FULL)] {
         let mut lent = Lent::new(8);
-        lent.set(COUNTS[2], u16::MAX);
+        lent.set(TEMPORARY_COUNT_AT, u16::MAX);
         assert_eq!(lent.serves(&[request], 0, 0), number);
     }
 }

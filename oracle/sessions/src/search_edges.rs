@@ -1,9 +1,9 @@
 //! Bad input to the degree search, and its limits: each gets its number, and nothing lent has changed; and
 //! the stored vectors.
 
-use crate::library::{self, SET_WORDS};
 use crate::record::pool_frames;
 use crate::searched::say;
+use enonkasse_sys::{self as library, SET_WORDS};
 use judge::case::{add, cm, exp, mul, Case, Tree};
 use judge::pool::{Flags, Pool, MAX_EXPRESSIONS};
 use judge::run::on_large_stack;
@@ -37,7 +37,8 @@ fn found(
     limit: u64,
 ) -> Result<([u64; SET_WORDS], [u64; 2]), u8> {
     let (mut chosen, mut found) = ([UNWRITTEN; SET_WORDS], [UNWRITTEN; 2]);
-    match library::search(frames, identities, bits, limit, &mut chosen, &mut found) {
+    let [n_bits, n_bits_ext] = bits;
+    match library::search(frames, identities, n_bits, n_bits_ext, limit, &mut chosen, &mut found) {
         0 => Ok((chosen, found)),
         number => {
             assert_eq!((chosen, found), ([UNWRITTEN; SET_WORDS], [UNWRITTEN; 2]));
@@ -52,7 +53,8 @@ fn refused(identities: &[u64], bits: [u64; 2], limit: u64) -> Option<u8> {
 
 #[test]
 fn document_01s_example_is_found() {
-    let set = [1, 0, 0, 0, 0, 0, 0, 0];
+    // The first bit, and one member.
+    let set = [1, 0, 0, 0, 0, 0, 0, 0, 1];
     assert_eq!(found(&frames(), &[1], [3, 3], 10), Ok((set, [1, 10])));
     assert_eq!(found(&frames(), &[1], [3, 4], 12), Ok((set, [1, 12])));
     assert_eq!(found(&frames(), &[1], [3, 4], u64::MAX), Ok((set, [1, 12])));

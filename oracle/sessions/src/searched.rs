@@ -1,12 +1,12 @@
 //! The port's answers to questions about searches.
 
-use crate::library::{self, SET_WORDS};
 use crate::record::pool_frames;
 use crate::spread;
+use enonkasse_sys::{self as library, MAX_EXPRESSIONS, SET_BIT_WORDS, SET_WORDS};
 use judge::random::Random;
 use searches::question::{Answer, Question};
 use searches::search::{visits_needed, Found, Search};
-use searches::tally::{Labelled, Questions, Said};
+use searches::tally::{Labelled, Questions, Said, Tally};
 
 /// One search of so many has its expressions spread.
 const SPREAD_EVERY: u64 = 4;
@@ -38,6 +38,11 @@ pub fn questions(seed: u64, index: u64) -> Questions {
     Ok(limits.into_iter().map(labelled).collect())
 }
 
+/// Compares so many random searches with the original, up to the first difference.
+pub fn compare(seed: u64, count: u64) -> Result<(Tally, Option<String>), String> {
+    searches::tally::compare(seed, count, questions, say)
+}
+
 /// To a search; the constraint is not exported.
 pub fn say(question: &Question) -> Said {
     match question {
@@ -49,12 +54,27 @@ pub fn say(question: &Question) -> Said {
 fn answer(search: &Search) -> Result<Answer, String> {
     let frames = pool_frames(&search.pool);
     let identities: Vec<u64> = search.identities.iter().map(|&e| e.into()).collect();
-    let bits = [search.n_bits.into(), search.n_bits_ext.into()];
     let (mut chosen, mut found) = ([UNWRITTEN; SET_WORDS], [UNWRITTEN; 2]);
-    let number = library::search(&frames, &identities, bits, search.limit, &mut chosen, &mut found);
+    let number = library::search(
+        &frames,
+        &identities,
+        search.n_bits.into(),
+        search.n_bits_ext.into(),
+        search.limit,
+        &mut chosen,
+        &mut found,
+    );
     if number == 0 {
         let [q, visits] = found;
-        return Ok(Answer::Found(Found { set: members(&chosen), q: q as usize, visits }));
+        let set = members(&chosen);
+        if chosen[SET_BIT_WORDS] != set.len() as u64 {
+            return Err(format!(
+                "{} members are counted as {}\n",
+                set.len(),
+                chosen[SET_BIT_WORDS]
+            ));
+        }
+        return Ok(Answer::Found(Found { set, q: q as usize, visits }));
     }
     if chosen != [UNWRITTEN; SET_WORDS] || found != [UNWRITTEN; 2] {
         return Err(format!("refused with {}, and what was lent has changed\n", number));
@@ -63,5 +83,5 @@ fn answer(search: &Search) -> Result<Answer, String> {
 }
 
 fn members(chosen: &[u64; SET_WORDS]) -> Vec<usize> {
-    (0..64 * SET_WORDS).filter(|e| chosen[e / 64] >> (e % 64) & 1 == 1).collect()
+    (0..MAX_EXPRESSIONS).filter(|e| chosen[e / 64] >> (e % 64) & 1 == 1).collect()
 }

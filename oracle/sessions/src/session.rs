@@ -2,8 +2,8 @@
 //! what stands after each compared.
 
 use crate::evaluation::{self, Evaluated};
-use crate::library;
-use crate::record::{encoded, framed, pool_frames, said, STEP};
+use crate::record::{encoded, framed, pool_frames, said};
+use enonkasse_sys::{self as library, CONTEXT_SIZE, STEP_SIZE};
 use judge::answer::{Answer, StepBytes};
 use judge::kinds::Step;
 use judge::pool::Pool;
@@ -147,8 +147,8 @@ struct Lent {
 impl<'a> Session<'a> {
     fn new(pool: &'a Pool, setting: Setting) -> Result<Session<'a>, Fault> {
         let mut ours = Lent {
-            context: vec![UNWRITTEN; library::CONTEXT],
-            list: vec![UNWRITTEN; STEP * setting.list],
+            context: vec![UNWRITTEN; CONTEXT_SIZE],
+            list: vec![UNWRITTEN; STEP_SIZE * setting.list],
         };
         if library::fresh(&mut ours.context) != 0 {
             return differs("a fresh context is refused".to_string());
@@ -189,7 +189,7 @@ impl<'a> Session<'a> {
         self.compare_context()?;
         compare_list("the list", self.pool, &steps, &self.ours.list, &self.before.list)?;
         self.tally.count(&steps);
-        let end = STEP * steps.len();
+        let end = STEP_SIZE * steps.len();
         self.before.list[..end].copy_from_slice(&self.ours.list[..end]);
         self.before.context.copy_from_slice(&self.ours.context);
         self.served.extend(requests);
@@ -205,12 +205,12 @@ impl<'a> Session<'a> {
         };
         let fits = |list: &Vec<StepBytes>| list.len() <= self.setting.built;
         let expected = if expected_lists.iter().all(fits) { 0 } else { FULL };
-        let room = STEP * self.setting.built.min(expected_lists[0].len() + 2);
+        let room = STEP_SIZE * self.setting.built.min(expected_lists[0].len() + 2);
         let unwritten = vec![UNWRITTEN; room];
         let mut lists = [unwritten.clone(), unwritten.clone(), unwritten.clone()];
         let mut sizes = [usize::MAX; 3];
-        let Lent { context, list } = &mut self.ours;
-        let number = library::build(&self.frames, context, list, &mut lists, &mut sizes);
+        let (Lent { context, list }, [first, i, last]) = (&mut self.ours, &mut lists);
+        let number = library::build(&self.frames, context, list, first, i, last, &mut sizes);
         self.judge(number, expected)?;
         if expected != 0 {
             self.original.restore(saved);
@@ -234,7 +234,7 @@ impl<'a> Session<'a> {
         }
         self.before.context.copy_from_slice(&self.ours.context);
         if let Some(rows) = self.setting.rows {
-            let (first, mut random) = (&lists[0][..STEP * sizes[0]], Random::new(rows, 0));
+            let (first, mut random) = (&lists[0][..STEP_SIZE * sizes[0]], Random::new(rows, 0));
             let evaluated =
                 evaluation::compare(self.pool, &self.frames, first, &self.served, &mut random);
             self.tally.evaluated.add(&evaluated.map_err(Fault::Differs)?);
@@ -280,8 +280,8 @@ fn compare_list(
     list: &[u8],
     before: &[u8],
 ) -> Result<(), Fault> {
-    let end = STEP * expected.len();
-    for (number, (record, step)) in list.chunks(STEP).zip(expected).enumerate() {
+    let end = STEP_SIZE * expected.len();
+    for (number, (record, step)) in list.chunks(STEP_SIZE).zip(expected).enumerate() {
         let got = encoded(record, pool);
         if got.as_deref() != Some(step.bytes()) {
             let text = format!("{}: step {} is {:02x?}, not {}", name, number, record, step);

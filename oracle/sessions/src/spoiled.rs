@@ -1,7 +1,7 @@
 //! Faults in what is lent to a walk, and the number that they get.
 
 use crate::planned::{Lent, Stage};
-use crate::record::{REFERENCE, STEP};
+use enonkasse_sys::{REFERENCE_SIZE, STEP_SIZE};
 use judge::pool::{MAX_EXPRESSIONS, MAX_NODES};
 use plans::input::Input;
 use plans::plan::Plan;
@@ -99,9 +99,9 @@ impl Fault {
     }
 
     fn put_into_step(self, any: usize, list: &mut [u8]) {
-        let step = STEP * (any % (list.len() / STEP));
+        let step = STEP_SIZE * (any % (list.len() / STEP_SIZE));
         let count = usize::from(list[step + 1]);
-        let reference = step + 4 + REFERENCE * (any / 64 % (1 + count));
+        let reference = step + 4 + REFERENCE_SIZE * (any / 64 % (1 + count));
         match self {
             Fault::Kind => list[reference] = NO_KINDS[any / 512 % NO_KINDS.len()],
             Fault::Prime => list[reference + 1] = 2,

@@ -1,8 +1,8 @@
 //! How much stack an exported function needs: what it touches is seen by painting it beforehand.
 
-use crate::library::{self, SET_WORDS};
 use crate::planned::{Lent, Sent, Stage};
 use crate::record::pool_frames;
+use enonkasse_sys::{self as library, SET_WORDS};
 use judge::case::{cm, exp, mul, neg, number, Case, Tree};
 use judge::pool::{Flags, Pool, MAX_EXPRESSIONS, MAX_NODES};
 use plans::input::{Draft, Input};
@@ -97,7 +97,8 @@ fn calls(pool: &Pool) -> Vec<(&'static str, Call<'_>)> {
         let frames = frames.clone();
         let search = move || {
             let (mut chosen, mut found) = ([0; SET_WORDS], [0; 2]);
-            library::search(&frames, &[last, last], [3, 3 + more], VISITS, &mut chosen, &mut found)
+            let (identities, bits) = ([last, last], 3 + more);
+            library::search(&frames, &identities, 3, bits, VISITS, &mut chosen, &mut found)
         };
         calls.push(("search", Box::new(search)));
     }

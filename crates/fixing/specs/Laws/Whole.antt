@@ -107,7 +107,7 @@ start-shows n counter h = record {
 }
 
 module _ (cms : List ℕ) where
-  reference-met : (r : Reference) → Met (ruledReference cms r)
+  pub reference-met : (r : Reference) → Met (ruledReference cms r)
   unfolding ruledReference
   reference-met r =
       go _ _ (eqb (r .kind) kind.cm) (only-met (ltb (r .id) (length cms)) notThere tt) (only-met (not (within kind.tree1 kind.Z (r .kind))) noRule tt)

@@ -74,19 +74,19 @@ module _ (g : Reference → Verdict) where
         pub dest-decides : l ≡ 0 → (d : ℕ) → d ≡ verdictNo (g (x .dest)) → d ≡ verdictNo (recordVerdict g x)
         dest-decides zl d ed = ed ∙ sym (ap verdictNo (after-second ∙ goes-on C D (sym el ∙ zl)))
 
--- ---- lists, whatever is asked of a record
+-- ---- lists, whatever is asked of what they list
+
+pub ruled-append : {A : Type 0} (f : A → Verdict) (xs ys : List A) → walked f (xs ++ ys) ≡ firstOf (walked f xs) (walked f ys)
+unfolding walked
+ruled-append f [] ys = refl
+ruled-append f (x ∷ xs) ys =
+    ap (firstOf (f x)) (ruled-append f xs ys)
+    ∙ sym (first-append (f x) (walked f xs) (walked f ys))
 
 module _ (f : Step → Verdict) where
-  pub ruled-append : (xs ys : List Step) → walked f (xs ++ ys) ≡ firstOf (walked f xs) (walked f ys)
-  unfolding walked
-  ruled-append [] ys = refl
-  ruled-append (x ∷ xs) ys =
-      ap (firstOf (f x)) (ruled-append xs ys)
-      ∙ sym (first-append (f x) (walked f xs) (walked f ys))
-
   pub ruled-more : (l : List ℕ) (n : ℕ) → walked f (stepsOf l (suc n)) ≡ firstOf (walked f (stepsOf l n)) (f (stepAt l (stepSize * n)))
   unfolding walked
-  ruled-more l n = rw (steps-more l n, ruled-append (stepsOf l n), first-fine (f (stepAt l (stepSize * n))))
+  ruled-more l n = rw (steps-more l n, ruled-append f (stepsOf l n), first-fine (f (stepAt l (stepSize * n))))
 
   pub ruled-begin : (l : List ℕ) → verdictNo (walked f (stepsOf l 0)) ≡ 0
   unfolding walked
@@ -103,7 +103,7 @@ module _ (f : Step → Verdict) where
     later d z =
         let xs = stepsOf l (suc k) in
         let ys = stepsOf (drop (stepSize * suc k) l) d in
-        at-k ∙ sym (ap verdictNo (ap (walked f) (steps-split l (suc k) d) ∙ ruled-append xs ys ∙ stops (walked f xs) (walked f ys) (λ w. z (at-k ∙ w))))
+        at-k ∙ sym (ap verdictNo (ap (walked f) (steps-split l (suc k) d) ∙ ruled-append f xs ys ∙ stops (walked f xs) (walked f ys) (λ w. z (at-k ∙ w))))
 
     pub ruled-stop : k < recordCount l → (n ≡ 0 → ⊥) → n ≡ verdictNo (walked f (recordsIn l))
     ruled-stop g z =
@@ -118,7 +118,7 @@ module _ (f : Step → Verdict) where
   -- ---- three lists
   module _ (first i last : List ℕ) (n : ℕ) (en : n ≡ verdictNo (walked f (recordsIn first))) where
     all-is : walked f (segmentIn first i last) ≡ firstOf (walked f (recordsIn first)) (firstOf (walked f (recordsIn i)) (walked f (recordsIn last)))
-    all-is = ruled-append (recordsIn first) (recordsIn i ++ recordsIn last) ∙ ap (firstOf (walked f (recordsIn first))) (ruled-append (recordsIn i) (recordsIn last))
+    all-is = ruled-append f (recordsIn first) (recordsIn i ++ recordsIn last) ∙ ap (firstOf (walked f (recordsIn first))) (ruled-append f (recordsIn i) (recordsIn last))
 
     pub in-first : (n ≡ 0 → ⊥) → n ≡ verdictNo (walked f (segmentIn first i last))
     in-first z = en ∙ sym (ap verdictNo (all-is ∙ stops (walked f (recordsIn first)) (firstOf (walked f (recordsIn i)) (walked f (recordsIn last))) (λ w. z (en ∙ w))))
