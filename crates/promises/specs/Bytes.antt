@@ -3,11 +3,11 @@
 use Prim.Native.Nat.{ℕ, zero, suc, _+_, _*_, _-_, _/_, _%_, _<_, _≤_}
 use mathlib.Core.Path.{_≡_, refl, sym, _∙_, ap}
 use mathlib.Core.Bool.{Bool, true, false}
-use mathlib.Core.List.{List, [], _∷_}
+use mathlib.Core.List.{List}
 use native.Mathlib.Nat.{add-zero}
 use native.Mathlib.Omega.{arith}
 use lib.ListN.{length, getD, drop}
-use lib.Seq.{getD-drop}
+use lib.Seq.{getD-drop, ext-getD}
 use lib.Dec.{ltb}
 use borrow.Author.Tests.{ltb-true, ltb-false}
 use Rattle.kinds.specs.Records.{Same}
@@ -16,25 +16,11 @@ use Rattle.kinds.specs.References.{refAt}
 use Rattle.kinds.specs.Steps.{stepSize, stepAt, stepsOf, steps-at}
 use Rattle.kinds.specs.declared.reference.Reference.{Reference}
 use Rattle.kinds.specs.declared.step.Step.{Step}
-use Rattle.builds.specs.Raw.{every}
+use Rattle.frames.specs.Taking.{Bytes}
 use Rattle.codegen.specs.Said.{Said}
 use Rattle.codegen.specs.Written.{stepCount, ListWith}
 
--- ── the statement ────────────────────────────────────────────────────────────
--- what a slice of bytes holds
-abbrev pub Bytes : List ℕ → Type 0
-Bytes l = (i : ℕ) → getD l i 0 < 256
-
--- ── lists, place by place ────────────────────────────────────────────────────
-pub same-list : (l m : List ℕ) → length l ≡ length m → ((i : ℕ) → i < length l → getD l i 0 ≡ getD m i 0) → l ≡ m
-same-list [] [] e h = refl
-same-list [] (y ∷ m) e h = absurd (omega (arith, e))
-same-list (x ∷ l) [] e h = absurd (omega (arith, e))
-same-list (x ∷ l) (y ∷ m) e h =
-    let p : x ≡ y = h 0 (omega arith) in
-    let q : l ≡ m = same-list l m (omega (arith, e)) (λ i g. h (suc i) (omega arith)) in
-    rw (p, q)
-
+-- ── byte by byte ─────────────────────────────────────────────────────────────
 module _ (l m : List ℕ) (bl : Bytes l) (bm : Bytes m) where
   same-one : (i j : ℕ) → getD l i 0 ≡ getD m j 0 → Same 1 l i m j
   unfolding Same
@@ -54,7 +40,7 @@ module _ (l m : List ℕ) (bl : Bytes l) (bm : Bytes m) where
           rw (u, v) at (q (k - a) (omega arith))
 
   same-u16 : (i j : ℕ) → u16At l i ≡ u16At m j → Same 2 l i m j
-  unfolding u16At
+  unfolding u16At Bytes
   same-u16 i j e =
       let a = bl (i + 1) in
       let b = bm (j + 1) in
@@ -95,7 +81,7 @@ module _ (l m : List ℕ) (bl : Bytes l) (bm : Bytes m) where
   -- the first n steps, and what stands after them
   same-steps : (n : ℕ) → length l ≡ length m → stepsOf l n ≡ stepsOf m n → drop (stepSize * n) l ≡ drop (stepSize * n) m → l ≡ m
   unfolding Same
-  same-steps n e f g = same-list l m e (λ i _. by i (ltb i (stepSize * n)) refl)
+  same-steps n e f g = ext-getD 0 l m e (λ i _. by i (ltb i (stepSize * n)) refl)
     where
       by : (i : ℕ) (t : Bool) → ltb i (stepSize * n) ≡ t → getD l i 0 ≡ getD m i 0
       by i true q =

@@ -1,33 +1,36 @@
 -- EACH NUMBER EXACTLY WHEN one of its ways is open, for each part of a call: frames, a pool, and what each exported function does after them. `Rows.antt` has the statement.
 -- Assumes nothing.
-use Prim.Native.Nat.{ℕ, _<_, _≤_}
+use Prim.Native.Nat.{ℕ, _*_}
 use mathlib.Core.Path.{_≡_, refl, sym, _∙_, ap, subst}
-use mathlib.Core.Bool.{Bool, true, false, cond, not, _&&_}
+use mathlib.Core.Bool.{Bool, true, false, cond, _&&_}
 use mathlib.Core.Option.{Option, none}
 use mathlib.Core.List.{List, [], _∷_}
 use mathlib.Core.Logic.{_⊎_, inl, inr, _↔_}
 use native.Mathlib.Omega.{arith}
 use lib.ListN.{length}
-use lib.Dec.{eqb, leb, ltb}
-use borrow.Author.Tests.{leb-true, leb-false, le-leb, lt-leb, eqb-true, eqb-false, eq-eqb, ne-eqb}
+use lib.Dec.{leb, ltb}
+use borrow.Author.Tests.{leb-true, leb-false, le-leb, ltb-true, ltb-false, lt-ltb}
 use Rattle.meaning.specs.Refusals.{Refusal, number, Answer, done, refused, _then_, answerNo}
 use Rattle.meaning.specs.Trees.{Forest, Acyclic}
 use Rattle.meaning.specs.Running.{empty}
-use Rattle.meaning.specs.Generation.{Request}
-use Rattle.meaning.specs.Laws.Tests.{true-false, number-not-zero, done-same, done-not-refused, then-done}
-use Rattle.kinds.specs.KindBytes as kind
-use Rattle.kinds.specs.Range.{within}
-use Rattle.kinds.specs.declared.reference.Reference.{Reference}
-use Rattle.kinds.specs.declared.step.Step.{Step}
+use Rattle.meaning.specs.Generation.{Request, start, serveAll}
+use Rattle.meaning.specs.Building.{Segment, whole}
+use Rattle.meaning.specs.Exactly.{all-3, all-5, plain-only, whole-number}
+use Rattle.meaning.specs.Laws.Standing.{start-stepped}
+use Rattle.meaning.specs.Laws.Tests.{true-false, number-not-zero, done-same, then-done}
 use Rattle.frames.specs.Order.{Input}
 use Rattle.frames.specs.Reading.{reading}
 use Rattle.frames.specs.Exactly as frames
 use Rattle.pool.specs.Pool.{Pool}
 use Rattle.pool.specs.Trees.{forest}
-use Rattle.pool.specs.Shaped.{Shaped}
 use Rattle.pool.specs.Verdict.{Verdict}
 use Rattle.pool.specs.Exactly as pool
 use Rattle.pool.specs.Numbered.{poolOf}
+use Rattle.kinds.specs.Steps.{stepSize}
+use Rattle.requests.specs.Generating.{numberLimit}
+use Rattle.requests.specs.Whole as run
+use Rattle.requests.specs.Runs.{requestsOf, BytesRun}
+use Rattle.requests.specs.Serving.{plain-requests}
 use Rattle.context.specs.Context.{Good, Exactly}
 use Rattle.builds.specs.Raw.{RawSegment}
 use Rattle.codegen.specs.Said.{Said, said, serveSaid, segmentSaid}
@@ -297,6 +300,70 @@ module _ (x l : List ℕ) (o : Lists) (i : Input) where
 pub of-build : (s x l : List ℕ) (o : Lists) (a : Answer RawSegment) → Builds (reading s) x l o a → (k : ℕ) → (answerNo a ≡ k) ↔ way.BuildWay s x l o k
 of-build s x l o a h =
     of-frames s (way.BuildRead x l o) a (h .unread) (λ i e. both (way.BuildRead x l o i) (build-way x l o i a (h .read i e)) (build-number x l o i a (h .read i e)))
+
+-- ── enonkasse_run ────────────────────────────────────────────────────────────
+module _ (room : ℕ) (i : Input) (acyclic : Acyclic (forest (poolOf i))) where
+  abbrev F : Forest
+  F = forest (poolOf i)
+
+  abbrev run-answer : Answer Segment
+  run-answer = run.served F (requestsOf i) room
+
+  abbrev room-number : Bool → Bool → Segment → ℕ
+  room-number p q g = answerNo (cond (p && q) (done g) (refused Refusal.full none))
+
+  of-whole : (g : Segment) → whole 2 F (requestsOf i) ≡ done g → answerNo run-answer ≡ room-number (leb (stepSize * length (g .first)) room) (ltb (g .counter) numberLimit) g
+  of-whole g e = ap (λ (y : Answer Segment). answerNo (y then run.fitting room)) e
+
+  of-refused : (k : Refusal) (o : Option ℕ) → whole 2 F (requestsOf i) ≡ refused k o → answerNo run-answer ≡ answerNo (serveAll 2 F (requestsOf i) start)
+  of-refused k o e = ap (λ (y : Answer Segment). answerNo (y then run.fitting room)) e ∙ sym (ap answerNo e) ∙ whole-number 2 F (requestsOf i)
+
+  ran-way : way.Ran room i (answerNo run-answer)
+  ran-way = go (whole 2 F (requestsOf i)) refl
+    where
+      fits-so : (g : Segment) → whole 2 F (requestsOf i) ≡ done g → (p : Bool) → leb (stepSize * length (g .first)) room ≡ p → (q : Bool) → ltb (g .counter) numberLimit ≡ q → way.Ran room i (room-number p q g)
+      fits-so g e true a true b = way.Ran.ran g e (leb-true (stepSize * length (g .first)) room a, ltb-true (g .counter) numberLimit b)
+      fits-so g e false a q b = way.Ran.full g e (λ f. let l = leb-false (stepSize * length (g .first)) room a in omega (arith, l, f .0))
+      fits-so g e true a false b = way.Ran.full g e (λ f. let l = ltb-false (g .counter) numberLimit b in omega (arith, l, f .1))
+
+      numbered : (k : Refusal) (o : Option ℕ) → whole 2 F (requestsOf i) ≡ refused k o → (n : ℕ) → answerNo (serveAll 2 F (requestsOf i) start) ≡ n → answerNo run-answer ≡ n
+      numbered k o e n q = of-refused k o e ∙ q
+
+      stopped :
+          (k : Refusal) (o : Option ℕ) → whole 2 F (requestsOf i) ≡ refused k o →
+          (answerNo (serveAll 2 F (requestsOf i) start) ≡ 0) ⊎ ((answerNo (serveAll 2 F (requestsOf i) start) ≡ 3) ⊎ (answerNo (serveAll 2 F (requestsOf i) start) ≡ 5)) → way.Ran room i (answerNo run-answer)
+      stopped k o e (inl q) = absurd (number-not-zero k (sym (ap answerNo e) ∙ whole-number 2 F (requestsOf i) ∙ q))
+      stopped k o e (inr (inl q)) = subst (way.Ran room i) (sym (numbered k o e 3 q)) (way.Ran.lost (all-3 2 F acyclic (requestsOf i) start start-stepped .0 q))
+      stopped k o e (inr (inr q)) = subst (way.Ran room i) (sym (numbered k o e 5 q)) (way.Ran.doublePrime (all-5 2 F acyclic (requestsOf i) start start-stepped .0 q))
+
+      go : (y : Answer Segment) → whole 2 F (requestsOf i) ≡ y → way.Ran room i (answerNo run-answer)
+      go (done g) e = subst (way.Ran room i) (sym (of-whole g e)) (fits-so g e (leb (stepSize * length (g .first)) room) refl (ltb (g .counter) numberLimit) refl)
+      go (refused k o) e = stopped k o e (plain-only 2 F acyclic (requestsOf i) start start-stepped (plain-requests (i .requests)))
+
+  ran-number : (k : ℕ) → way.Ran room i k → answerNo run-answer ≡ k
+  ran-number k (way.Ran.lost c) = go (whole 2 F (requestsOf i)) refl (all-3 2 F acyclic (requestsOf i) start start-stepped .1 c)
+    where
+      go : (y : Answer Segment) → whole 2 F (requestsOf i) ≡ y → answerNo (serveAll 2 F (requestsOf i) start) ≡ 3 → answerNo run-answer ≡ 3
+      go (done g) e q = absurd (let z : 0 ≡ 3 = sym (ap answerNo e) ∙ whole-number 2 F (requestsOf i) ∙ q in omega arith)
+      go (refused r o) e q = of-refused r o e ∙ q
+  ran-number k (way.Ran.doublePrime c) = go (whole 2 F (requestsOf i)) refl (all-5 2 F acyclic (requestsOf i) start start-stepped .1 c)
+    where
+      go : (y : Answer Segment) → whole 2 F (requestsOf i) ≡ y → answerNo (serveAll 2 F (requestsOf i) start) ≡ 5 → answerNo run-answer ≡ 5
+      go (done g) e q = absurd (let z : 0 ≡ 5 = sym (ap answerNo e) ∙ whole-number 2 F (requestsOf i) ∙ q in omega arith)
+      go (refused r o) e q = of-refused r o e ∙ q
+  ran-number k (way.Ran.full g e n) = of-whole g e ∙ go (leb (stepSize * length (g .first)) room) refl (ltb (g .counter) numberLimit) refl
+    where
+      go : (p : Bool) → leb (stepSize * length (g .first)) room ≡ p → (q : Bool) → ltb (g .counter) numberLimit ≡ q → room-number p q g ≡ 9
+      go true a true b = absurd (n (leb-true (stepSize * length (g .first)) room a, ltb-true (g .counter) numberLimit b))
+      go false a q b = refl
+      go true a false b = refl
+  ran-number k (way.Ran.ran g e f) = of-whole g e ∙ rw (le-leb (stepSize * length (g .first)) room (f .0), lt-ltb (g .counter) numberLimit (f .1))
+
+pub of-run : (s : List ℕ) (room : ℕ) (a : Answer Segment) → BytesRun s room a → (k : ℕ) → (answerNo a ≡ k) ↔ way.RunWay s room k
+of-run s room a h =
+    of-frames s (λ i. OfPool (poolOf i) (λ c. way.Ran room i)) a (h .unread)
+    (λ i q. of-pool (poolOf i) (λ c. way.Ran room i) (run.served (forest (poolOf i)) (requestsOf i) room)
+    (λ v c. both (way.Ran room i) (ran-way room i c) (ran-number room i c)) a (h .judged i q))
 
 -- ── enonkasse_evaluate ───────────────────────────────────────────────────────
 module _ (list : List ℕ) (m : ℕ) (ws : List ℕ) (room : ℕ) (i : Input) where

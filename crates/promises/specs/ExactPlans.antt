@@ -2,20 +2,17 @@
 -- Assumes nothing.
 use Prim.Native.Nat.{ℕ, _<_, _≤_}
 use mathlib.Core.Path.{_≡_, refl, sym, _∙_, ap, subst}
-use mathlib.Core.Bool.{Bool, true, false, cond, not, _&&_}
-use mathlib.Core.Option.{none}
+use mathlib.Core.Bool.{Bool, true, false, cond, _&&_}
 use mathlib.Core.List.{List, [], _∷_}
 use mathlib.Core.Logic.{_⊎_, inl, inr, _↔_}
 use native.Mathlib.Omega.{arith}
 use lib.ListN.{length}
-use lib.Dec.{eqb, leb, ltb}
-use borrow.Author.Tests.{leb-true, leb-false, le-leb, lt-leb}
+use lib.Dec.{eqb, leb}
+use borrow.Author.Tests.{leb-true, leb-false}
 use Rattle.meaning.specs.Refusals.{Refusal, number, Answer, done, refused, _then_, answerNo}
-use Rattle.meaning.specs.Laws.Tests.{true-false, number-not-zero, and-left, and-right}
+use Rattle.meaning.specs.Laws.Tests.{number-not-zero, and-right}
 use Rattle.kinds.specs.KindBytes as kind
-use Rattle.kinds.specs.Range.{within}
 use Rattle.kinds.specs.declared.reference.Reference.{Reference}
-use Rattle.kinds.specs.declared.step.Step.{Step}
 use Rattle.frames.specs.Order.{Input}
 use Rattle.frames.specs.Reading.{reading}
 use Rattle.lists.specs.Records.{goodList}
@@ -24,8 +21,13 @@ use Rattle.lent_lists.specs.Records.{segmentIn, goodLists}
 use Rattle.lent_lists.specs.Walks.{walked, recordVerdict}
 use Rattle.lent_lists.specs.Laws.Walks.{Met, walk-met}
 use Rattle.fixing.specs.ProverCode.{lastCounter, temporaries, ruledReference, decided, proverVerdict}
-use Rattle.fixing.specs.Exactly.{walk-is, prover-3, prover-10}
+use Rattle.fixing.specs.Conditions.{Refused10, Refused3, Refused9, Accepted}
+use Rattle.fixing.specs.Exactly.{prover-10, prover-3, prover-9, prover-0}
+use Rattle.fixing.specs.Laws.Whole.{reference-met}
 use Rattle.query_fixing.specs.QueryCode.{hasTree, treeFor, treedReference, queryVerdict}
+use Rattle.query_fixing.specs.QueryConditions as query
+use Rattle.query_fixing.specs.QueryExactly.{query-10, query-3, query-0, refused-3-so, refused-10-so, accepted-so}
+use Rattle.plans.specs.Agreement.{cmCount}
 use Rattle.step_dimensions.specs.StepDimensions.{Given, unwritten}
 use Rattle.dimensions.specs.Dimensions as dimensions
 use Rattle.dimensions.specs.Answers.{refusalOf}
@@ -39,8 +41,12 @@ use Rattle.plan_map.specs.Numbers.{mapBytes}
 use Rattle.plan_map.specs.Whole.{mapBy}
 use Rattle.plan_map.specs.Exactly.{by-no-room, by-room}
 use Rattle.plan_tables.specs.Tables.{trees}
+use Rattle.plan_exactly.specs.Numbers.{verdict-number}
+use Rattle.plan_exactly.specs.Fixing as by-fixing
+use Rattle.plan_exactly.specs.Query as by-query
+use Rattle.plan_exactly.specs.Query.{NoCm}
 use Rattle.plan_walks.specs.Walks as walks
-use Rattle.plan_walks.specs.Walks.{Walked, goodSegment, lastDomain, ruled}
+use Rattle.plan_walks.specs.Walks.{Walked, goodSegment, lastDomain}
 use Rattle.plan_walks.specs.Fix.{isN, rulesIn, fixWith, fixBy}
 use Rattle.plan_walks.specs.Cms.{cmsOf}
 use Rattle.plan_walks.specs.Query.{queryWith, queryBy}
@@ -68,7 +74,7 @@ others-good b own x n (plan.Way.counts i e w d m s) z = absurd (omega (arith, z)
 others-good b own x n (plan.Way.undimensioned i e w d m k s) z = absurd (omega (arith, z))
 others-good b own x n (plan.Way.planned i e w d m k s) z = w .others
 
-module _ (s b : List ℕ) (own : Bool) {A : Type 0} (what : Planned → Answer A) (C : Planned → ℕ → Type 0) (onward : own ≡ true → (z : Planned) → (k : ℕ) → (answerNo (what z) ≡ k) ↔ C z k) (a : Answer A) (h : Goes b own what (reading s) a) where
+module _ (s b : List ℕ) (own : Bool) {A : Type 0} (what : Planned → Answer A) (C : Planned → ℕ → Type 0) (onward : own ≡ true → (z : Planned) → Plans b own (reading s) (done z) → (k : ℕ) → (answerNo (what z) ≡ k) ↔ C z k) (a : Answer A) (h : Goes b own what (reading s) a) where
   own-good : (z : Planned) → Plans b own (reading s) (done z) → own ≡ true
   own-good z p = others-good b own (reading s) 0 (exactly b own (reading s) (done z) p 0 .0 refl) refl
 
@@ -77,11 +83,11 @@ module _ (s b : List ℕ) (own : Bool) {A : Type 0} (what : Planned → Answer A
     where
       to : (plan.Way b own (reading s) k × (k ≡ 0 → ⊥)) ⊎ Follows b own what (reading s) a h k → OfPlan s b own C k
       to (inl w) = OfPlan.unplanned (w .1) (w .0)
-      to (inr f) = OfPlan.planned (f .pooled) (f .plans) (onward (own-good (f .pooled) (f .plans)) (f .pooled) k .0 (f .number))
+      to (inr f) = OfPlan.planned (f .pooled) (f .plans) (onward (own-good (f .pooled) (f .plans)) (f .pooled) (f .plans) k .0 (f .number))
 
       from : OfPlan s b own C k → (plan.Way b own (reading s) k × (k ≡ 0 → ⊥)) ⊎ Follows b own what (reading s) a h k
       from (OfPlan.unplanned n w) = inl (w, n)
-      from (OfPlan.planned z p c) = inr (record { pooled = z; plans = p; number = onward (own-good z p) z k .1 c })
+      from (OfPlan.planned z p c) = inr (record { pooled = z; plans = p; number = onward (own-good z p) z p k .1 c })
 
 -- ── enonkasse_map ────────────────────────────────────────────────────────────
 module _ (b : List ℕ) (room : ℕ) (z : Planned) where
@@ -89,148 +95,97 @@ module _ (b : List ℕ) (room : ℕ) (z : Planned) where
   mapped-way = go (leb (length (mapBytes b z)) room) refl
     where
       go : (t : Bool) → leb (length (mapBytes b z)) room ≡ t → way.Mapped b room z (answerNo (mapBy b room z))
-      go true e = let l = leb-true (length (mapBytes b z)) room e in subst (way.Mapped b room z) (sym (ap answerNo (by-room b room z l))) (way.Mapped.whole l)
+      go true e = let l = leb-true (length (mapBytes b z)) room e in subst (way.Mapped b room z) (sym (ap answerNo (by-room b room z l))) (way.Mapped.fits l)
       go false e = let l = leb-false (length (mapBytes b z)) room e in subst (way.Mapped b room z) (sym (ap answerNo (by-no-room b room z l))) (way.Mapped.full l)
 
   mapped-number : (k : ℕ) → way.Mapped b room z k → answerNo (mapBy b room z) ≡ k
   mapped-number k (way.Mapped.full l) = ap answerNo (by-no-room b room z l)
-  mapped-number k (way.Mapped.whole l) = ap answerNo (by-room b room z l)
+  mapped-number k (way.Mapped.fits l) = ap answerNo (by-room b room z l)
 
 pub of-map : (s b : List ℕ) (room : ℕ) (a : Answer (List ℕ)) → Goes b true (mapBy b room) (reading s) a → (k : ℕ) → (answerNo a ≡ k) ↔ way.MapWay s b room k
-of-map s b room = of-plan s b true (mapBy b room) (way.Mapped b room) (λ e z. both (way.Mapped b room z) (mapped-way b room z) (mapped-number b room z))
+of-map s b room = of-plan s b true (mapBy b room) (way.Mapped b room) (λ e z p. both (way.Mapped b room z) (mapped-way b room z) (mapped-number b room z))
 
 -- ── walks ────────────────────────────────────────────────────────────────────
-ruled-number : {A : Type 0} (v : Verdict) (a : A) → answerNo (ruled v a) ≡ verdictNo v
-ruled-number fine a = refl
-ruled-number malformed a = refl
-ruled-number notThere a = refl
-ruled-number noRule a = refl
-ruled-number full a = refl
-
 -- enonkasse_fix
-module _ (b : List ℕ) (domain counter : ℕ) (first i last : List ℕ) (good : goodSegment domain counter first i last ≡ true) (z : Planned) where
-  abbrev rs : List ℕ
-  rs = rulesIn (isN domain) b z
-
+module _ (s b : List ℕ) (domain counter : ℕ) (first i last : List ℕ) (good : goodSegment domain counter first i last ≡ true) (z : Planned) (p : Plans b (goodSegment domain counter first i last) (reading s) (done z)) where
   abbrev cms : List ℕ
   cms = cmsOf (isN domain) (z .mapping .sections)
 
-  abbrev next : ℕ
-  next = temporaries rs counter first i last .next
-
   abbrev verdict : Verdict
-  verdict = proverVerdict rs cms counter first i last
+  verdict = proverVerdict (rulesIn (isN domain) b z) cms counter first i last
+
+  abbrev fixes : Answer Walked
+  fixes = fixBy counter first i last (isN domain) b z
 
   -- nothing is malformed
   formed : (leb counter lastCounter && goodLists first i last) ≡ true
   unfolding goodSegment
   formed = and-right (leb domain lastDomain) (leb counter lastCounter && goodLists first i last) good
 
-  ruled-met : (r : Reference) → Met (ruledReference cms r)
-  unfolding ruledReference
-  ruled-met r = go (eqb (r .kind) kind.cm) (ltb (r .id) (length cms)) (not (within kind.tree1 kind.Z (r .kind)))
-    where
-      go : (p q t : Bool) → Met (cond p (only q notThere) (only t noRule))
-      go true true t = tt
-      go true false t = tt
-      go false q true = tt
-      go false q false = tt
-
-  -- 10, 3, or what the counter says
-  data Case : Type 0 where
-    ten : verdict ≡ noRule → Case
-    three : verdict ≡ notThere → Case
-    counted : verdict ≡ only (leb next lastCounter) full → Case
-
-  case : Case
+  not-malformed : verdict ≡ malformed → ⊥
   unfolding proverVerdict decided
-  case = go (walked (recordVerdict (ruledReference cms)) (segmentIn first i last)) refl (walk-met (ruledReference cms) ruled-met (segmentIn first i last))
+  not-malformed e = go (walked (recordVerdict (ruledReference cms)) (segmentIn first i last)) (walk-met (ruledReference cms) (reference-met cms) (segmentIn first i last)) (rw formed at e)
     where
-      is : (v : Verdict) → walked (recordVerdict (ruledReference cms)) (segmentIn first i last) ≡ v → verdict ≡ firstOf (firstOf fine v) (only (leb next lastCounter) full)
-      is v e = rw (formed, e)
+      fit : (t : Bool) → verdictNo (only t full) ≡ 1 → ⊥
+      fit true q = omega (arith, q)
+      fit false q = omega (arith, q)
 
-      go : (v : Verdict) → walked (recordVerdict (ruledReference cms)) (segmentIn first i last) ≡ v → Met v → Case
-      go fine e m = counted (is fine e)
-      go malformed e m = absurd m
-      go notThere e m = three (is notThere e)
-      go noRule e m = ten (is noRule e)
-      go full e m = absurd m
+      go : (v : Verdict) → Met v → firstOf (firstOf fine v) (only (leb (temporaries (rulesIn (isN domain) b z) counter first i last .next) lastCounter) full) ≡ malformed → ⊥
+      go fine m q = fit (leb (temporaries (rulesIn (isN domain) b z) counter first i last .next) lastCounter) (ap verdictNo q)
+      go malformed m q = m
+      go notThere m q = let y : _≡_ {A = ℕ} 3 1 = ap verdictNo q in omega arith
+      go noRule m q = let y : _≡_ {A = ℕ} 10 1 = ap verdictNo q in omega arith
+      go full m q = m
 
-  fix-number : answerNo (fixBy counter first i last (isN domain) b z) ≡ verdictNo verdict
+  fix-number : answerNo fixes ≡ verdictNo verdict
   unfolding fixWith
-  fix-number = ruled-number verdict _
+  fix-number = verdict-number verdict _
 
-  -- the counter's verdict is neither 10 nor 3
-  not-met : (t : Bool) → verdict ≡ only t full → (k : ℕ) → verdictNo verdict ≡ k → (k ≡ 0) ⊎ (k ≡ 9)
-  not-met true e k q = inl (sym q ∙ ap verdictNo e)
-  not-met false e k q = inr (sym q ∙ ap verdictNo e)
+  ten : (answerNo fixes ≡ 10) ↔ Refused10 (cmCount b) counter first i last
+  ten = by-fixing.by-plan s b domain counter first i last noRule (λ n _. Refused10 n counter first i last) (λ rules cms. prover-10 cms counter first i last rules) z p
 
-  no-10 : verdict ≡ only (leb next lastCounter) full → verdict ≡ noRule → ⊥
-  no-10 e f = go (not-met (leb next lastCounter) e 10 (ap verdictNo f))
+  three : (answerNo fixes ≡ 3) ↔ Refused3 (cmCount b) counter first i last
+  three = by-fixing.by-plan s b domain counter first i last notThere (λ n _. Refused3 n counter first i last) (λ rules cms. prover-3 cms counter first i last rules) z p
+
+  nine : (answerNo fixes ≡ 9) ↔ Refused9 (cmCount b) (rulesIn (isN domain) b z) counter first i last
+  nine = by-fixing.by-plan s b domain counter first i last full (λ n rules. Refused9 n rules counter first i last) (λ rules cms. prover-9 cms counter first i last rules) z p
+
+  none-refused : (answerNo fixes ≡ 0) ↔ Accepted (cmCount b) (rulesIn (isN domain) b z) counter first i last
+  none-refused = by-fixing.by-plan s b domain counter first i last fine (λ n rules. Accepted n rules counter first i last) (λ rules cms. prover-0 cms counter first i last rules) z p
+
+  fixed-way : way.Fixed b domain counter first i last z (answerNo fixes)
+  fixed-way = go verdict refl
     where
-      go : (_≡_ {A = ℕ} 10 0) ⊎ (_≡_ {A = ℕ} 10 9) → ⊥
-      go (inl q) = omega (arith, q)
-      go (inr q) = omega (arith, q)
+      at : (v : Verdict) → verdict ≡ v → answerNo fixes ≡ verdictNo v
+      at v e = fix-number ∙ ap verdictNo e
 
-  no-3 : verdict ≡ only (leb next lastCounter) full → verdict ≡ notThere → ⊥
-  no-3 e f = go (not-met (leb next lastCounter) e 3 (ap verdictNo f))
-    where
-      go : (_≡_ {A = ℕ} 3 0) ⊎ (_≡_ {A = ℕ} 3 9) → ⊥
-      go (inl q) = omega (arith, q)
-      go (inr q) = omega (arith, q)
+      go : (v : Verdict) → verdict ≡ v → way.Fixed b domain counter first i last z (answerNo fixes)
+      go fine e = subst (way.Fixed b domain counter first i last z) (sym (at fine e)) (way.Fixed.fixed (none-refused .0 (at fine e)))
+      go malformed e = absurd (not-malformed e)
+      go notThere e = subst (way.Fixed b domain counter first i last z) (sym (at notThere e)) (way.Fixed.notThere (three .0 (at notThere e)))
+      go noRule e = subst (way.Fixed b domain counter first i last z) (sym (at noRule e)) (way.Fixed.noRule (ten .0 (at noRule e)))
+      go full e = subst (way.Fixed b domain counter first i last z) (sym (at full e)) (way.Fixed.full (nine .0 (at full e)))
 
-  abbrev W : ℕ → Type 0
-  W = way.Fixed b domain counter first i last z
-
-  fixed-way : W (answerNo (fixBy counter first i last (isN domain) b z))
-  fixed-way = subst W (sym fix-number) (go case)
-    where
-      go : Case → W (verdictNo verdict)
-      go (ten e) = subst W (sym (ap verdictNo e)) (way.Fixed.noRule (prover-10 cms counter first i last rs .0 e))
-      go (three e) = subst W (sym (ap verdictNo e)) (way.Fixed.notThere (prover-3 cms counter first i last rs .0 e))
-      go (counted e) = by (leb next lastCounter) refl
-        where
-          by : (t : Bool) → leb next lastCounter ≡ t → W (verdictNo verdict)
-          by true q =
-              subst W (sym (ap verdictNo (e ∙ ap (λ t. only t full) q)))
-              (way.Fixed.fixed (λ c. no-10 e (prover-10 cms counter first i last rs .1 c)) (λ c. no-3 e (prover-3 cms counter first i last rs .1 c)) (leb-true next lastCounter q))
-          by false q =
-              subst W (sym (ap verdictNo (e ∙ ap (λ t. only t full) q)))
-              (way.Fixed.full (λ c. no-10 e (prover-10 cms counter first i last rs .1 c)) (λ c. no-3 e (prover-3 cms counter first i last rs .1 c)) (leb-false next lastCounter q))
-
-  fixed-number : (k : ℕ) → W k → answerNo (fixBy counter first i last (isN domain) b z) ≡ k
-  fixed-number k (way.Fixed.noRule c) = fix-number ∙ ap verdictNo (prover-10 cms counter first i last rs .1 c)
-  fixed-number k (way.Fixed.notThere c) = fix-number ∙ ap verdictNo (prover-3 cms counter first i last rs .1 c)
-  fixed-number k (way.Fixed.full m n l) = fix-number ∙ go case
-    where
-      go : Case → verdictNo verdict ≡ 9
-      go (ten e) = absurd (m (prover-10 cms counter first i last rs .0 e))
-      go (three e) = absurd (n (prover-3 cms counter first i last rs .0 e))
-      go (counted e) = ap verdictNo (e ∙ ap (λ t. only t full) (lt-leb next lastCounter l))
-  fixed-number k (way.Fixed.fixed m n l) = fix-number ∙ go case
-    where
-      go : Case → verdictNo verdict ≡ 0
-      go (ten e) = absurd (m (prover-10 cms counter first i last rs .0 e))
-      go (three e) = absurd (n (prover-3 cms counter first i last rs .0 e))
-      go (counted e) = ap verdictNo (e ∙ ap (λ t. only t full) (le-leb next lastCounter l))
+  fixed-number : (k : ℕ) → way.Fixed b domain counter first i last z k → answerNo fixes ≡ k
+  fixed-number k (way.Fixed.noRule c) = ten .1 c
+  fixed-number k (way.Fixed.notThere c) = three .1 c
+  fixed-number k (way.Fixed.full c) = nine .1 c
+  fixed-number k (way.Fixed.fixed c) = none-refused .1 c
 
 pub of-fix :
     (s b : List ℕ) (domain counter : ℕ) (first i last : List ℕ) (a : Answer Walked) →
     Goes b (goodSegment domain counter first i last) (fixBy counter first i last (isN domain) b) (reading s) a → (k : ℕ) → (answerNo a ≡ k) ↔ way.FixWay s b domain counter first i last k
 of-fix s b domain counter first i last =
     of-plan s b (goodSegment domain counter first i last) (fixBy counter first i last (isN domain) b) (way.Fixed b domain counter first i last)
-    (λ g z. both (way.Fixed b domain counter first i last z) (fixed-way b domain counter first i last g z) (fixed-number b domain counter first i last g z))
+    (λ g z p. both (way.Fixed b domain counter first i last z) (fixed-way s b domain counter first i last g z p) (fixed-number s b domain counter first i last g z p))
 
 -- enonkasse_query
-module _ (first i last : List ℕ) (good : goodLists first i last ≡ true) (z : Planned) where
+module _ (s b first i last : List ℕ) (good : goodLists first i last ≡ true) (z : Planned) (p : Plans b (goodLists first i last) (reading s) (done z)) where
   abbrev ts : List ℕ
   ts = trees (z .mapping)
 
-  abbrev recordIs : Step → Verdict
-  recordIs = recordVerdict (treedReference ts)
-
-  abbrev met : Verdict
-  met = walked recordIs (segmentIn first i last)
+  abbrev queries : Answer Walked
+  queries = queryBy first i last z
 
   treed-met : (r : Reference) → Met (treedReference ts r)
   unfolding treedReference
@@ -241,49 +196,45 @@ module _ (first i last : List ℕ) (good : goodLists first i last ≡ true) (z :
       go true false = tt
       go false q = tt
 
-  query-number : answerNo (queryBy first i last z) ≡ verdictNo met
+  abbrev met : Verdict
+  met = walked (recordVerdict (treedReference ts)) (segmentIn first i last)
+
+  query-number : answerNo queries ≡ verdictNo met
   unfolding queryWith queryVerdict
-  query-number = ruled-number (firstOf (only (goodLists first i last) malformed) met) _ ∙ rw good
+  query-number = verdict-number (firstOf (only (goodLists first i last) malformed) met) _ ∙ rw good
 
-  first-3 : (met ≡ notThere) ↔ way.FirstQueried first i last z (λ r. recordIs r ≡ notThere)
-  first-3 =
-      walk-is recordIs notThere (λ e. let y : _≡_ {A = ℕ} 3 0 = ap verdictNo e in omega arith) (λ r. recordIs r ≡ fine) (λ r. recordIs r ≡ notThere) (λ r. ((λ e. e), λ e. e)) (λ r. ((λ e. e), λ e. e))
-      (segmentIn first i last)
+  query-ten : (answerNo queries ≡ 10) ↔ query.Refused10 (NoCm b) first i last
+  query-ten = by-query.by-plan s b first i last noRule (λ A. query.Refused10 A first i last) (λ ts. query-10 ts first i last) (λ A B e. refused-10-so A B e first i last) z p
 
-  first-10 : (met ≡ noRule) ↔ way.FirstQueried first i last z (λ r. recordIs r ≡ noRule)
-  first-10 =
-      walk-is recordIs noRule (λ e. let y : _≡_ {A = ℕ} 10 0 = ap verdictNo e in omega arith) (λ r. recordIs r ≡ fine) (λ r. recordIs r ≡ noRule) (λ r. ((λ e. e), λ e. e)) (λ r. ((λ e. e), λ e. e))
-      (segmentIn first i last)
+  query-three : (answerNo queries ≡ 3) ↔ query.Refused3 (NoCm b) first i last
+  query-three = by-query.by-plan s b first i last notThere (λ A. query.Refused3 A first i last) (λ ts. query-3 ts first i last) (λ A B e. refused-3-so A B e first i last) z p
 
-  queried-way : way.Queried first i last z (answerNo (queryBy first i last z))
-  queried-way = subst (way.Queried first i last z) (sym query-number) (go met refl (walk-met (treedReference ts) treed-met (segmentIn first i last)))
+  query-none : (answerNo queries ≡ 0) ↔ query.Accepted (NoCm b) first i last
+  query-none = by-query.by-plan s b first i last fine (λ A. query.Accepted A first i last) (λ ts. query-0 ts first i last) (λ A B e. accepted-so A B e first i last) z p
+
+  queried-way : way.Queried b first i last z (answerNo queries)
+  queried-way = go met refl (walk-met (treedReference ts) treed-met (segmentIn first i last))
     where
-      go : (v : Verdict) → met ≡ v → Met v → way.Queried first i last z (verdictNo v)
-      go fine e m =
-          way.Queried.queried (λ c. let y : _≡_ {A = ℕ} 3 0 = ap verdictNo (sym (first-3 .1 c) ∙ e) in omega arith)
-          (λ c. let y : _≡_ {A = ℕ} 10 0 = ap verdictNo (sym (first-10 .1 c) ∙ e) in omega arith)
+      at : (v : Verdict) → met ≡ v → answerNo queries ≡ verdictNo v
+      at v e = query-number ∙ ap verdictNo e
+
+      go : (v : Verdict) → met ≡ v → Met v → way.Queried b first i last z (answerNo queries)
+      go fine e m = subst (way.Queried b first i last z) (sym (at fine e)) (way.Queried.queried (query-none .0 (at fine e)))
       go malformed e m = absurd m
-      go notThere e m = way.Queried.notThere (first-3 .0 e)
-      go noRule e m = way.Queried.noRule (first-10 .0 e)
+      go notThere e m = subst (way.Queried b first i last z) (sym (at notThere e)) (way.Queried.notThere (query-three .0 (at notThere e)))
+      go noRule e m = subst (way.Queried b first i last z) (sym (at noRule e)) (way.Queried.noRule (query-ten .0 (at noRule e)))
       go full e m = absurd m
 
-  queried-number : (k : ℕ) → way.Queried first i last z k → answerNo (queryBy first i last z) ≡ k
-  queried-number k (way.Queried.notThere c) = query-number ∙ ap verdictNo (first-3 .1 c)
-  queried-number k (way.Queried.noRule c) = query-number ∙ ap verdictNo (first-10 .1 c)
-  queried-number k (way.Queried.queried m n) = query-number ∙ go met refl (walk-met (treedReference ts) treed-met (segmentIn first i last))
-    where
-      go : (v : Verdict) → met ≡ v → Met v → verdictNo met ≡ 0
-      go fine e h = ap verdictNo e
-      go malformed e h = absurd h
-      go notThere e h = absurd (m (first-3 .0 e))
-      go noRule e h = absurd (n (first-10 .0 e))
-      go full e h = absurd h
+  queried-number : (k : ℕ) → way.Queried b first i last z k → answerNo queries ≡ k
+  queried-number k (way.Queried.noRule c) = query-ten .1 c
+  queried-number k (way.Queried.notThere c) = query-three .1 c
+  queried-number k (way.Queried.queried c) = query-none .1 c
 
 pub of-query :
     (s b first i last : List ℕ) (a : Answer Walked) → Goes b (goodLists first i last) (queryBy first i last) (reading s) a → (k : ℕ) → (answerNo a ≡ k) ↔ way.QueryWay s b first i last k
 of-query s b first i last =
-    of-plan s b (goodLists first i last) (queryBy first i last) (way.Queried first i last)
-    (λ g z. both (way.Queried first i last z) (queried-way first i last g z) (queried-number first i last g z))
+    of-plan s b (goodLists first i last) (queryBy first i last) (way.Queried b first i last)
+    (λ g z p. both (way.Queried b first i last z) (queried-way s b first i last g z p) (queried-number s b first i last g z p))
 
 -- enonkasse_dimension and enonkasse_dimension_first
 module _ (d : ℕ) (ls : List (List ℕ)) (b : List ℕ) (good : dimensions.goodLists ls ≡ true) (z : Planned) where
@@ -336,13 +287,13 @@ pub of-dimension :
     (answerNo a ≡ k) ↔ way.DimensionWay s b d first i last k
 of-dimension s b d first i last =
     of-plan s b (goodLists first i last) (dimensionBy d (first ∷ i ∷ last ∷ []) b) (way.Dimensioned d (first ∷ i ∷ last ∷ []) b)
-    (λ g z. of-dimensioned d (first ∷ i ∷ last ∷ []) b (three-good first i last g) z)
+    (λ g z p. of-dimensioned d (first ∷ i ∷ last ∷ []) b (three-good first i last g) z)
 
 pub of-dimension-first :
     (s b : List ℕ) (d : ℕ) (first : List ℕ) (a : Answer Walked) → Goes b (goodList first) (dimensionBy d (first ∷ []) b) (reading s) a → (k : ℕ) →
     (answerNo a ≡ k) ↔ OfPlan s b (goodList first) (way.Dimensioned d (first ∷ []) b) k
 of-dimension-first s b d first =
-    of-plan s b (goodList first) (dimensionBy d (first ∷ []) b) (way.Dimensioned d (first ∷ []) b) (λ g z. of-dimensioned d (first ∷ []) b (one-good first g) z)
+    of-plan s b (goodList first) (dimensionBy d (first ∷ []) b) (way.Dimensioned d (first ∷ []) b) (λ g z p. of-dimensioned d (first ∷ []) b (one-good first g) z)
 
 -- ── enonkasse_map_section ────────────────────────────────────────────────────
 module _ (rs : List PolType) (a b c room : ℕ) where

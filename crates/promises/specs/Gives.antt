@@ -25,7 +25,7 @@ use Rattle.step_dimensions.specs.StepDimensions.{Given}
 use Rattle.dimensions.specs.Conditions.{SourceRefused, SourcesRefused, StepRefused, StepsRefused}
 use Rattle.search_meaning.specs.SearchCases.{Row}
 use Rattle.records.specs.declared.PolType.{PolType}
-use Rattle.promises.specs.Ways.{OfFrames, OfPool, OfPlan, FreshWay, Served, ServeRead, Built, BuildRead, Evaluated, EvaluateRead, Mapped, Fixed, Queried, Dimensioned, SectionWay}
+use Rattle.promises.specs.Ways.{OfFrames, OfPool, OfPlan, FreshWay, Served, ServeRead, Built, BuildRead, Ran, Evaluated, EvaluateRead, Mapped, Fixed, Queried, Dimensioned, SectionWay}
 use Rattle.promises.specs.Rows.{Call, Holds, rows}
 
 -- ── the statement ────────────────────────────────────────────────────────────
@@ -43,6 +43,9 @@ serveNumbers = 0 ∷ 1 ∷ 2 ∷ 3 ∷ 4 ∷ 5 ∷ 7 ∷ 8 ∷ 9 ∷ []
 
 abbrev pub buildNumbers : List ℕ
 buildNumbers = 0 ∷ 1 ∷ 2 ∷ 3 ∷ 4 ∷ 9 ∷ []
+
+abbrev pub runNumbers : List ℕ
+runNumbers = 0 ∷ 1 ∷ 2 ∷ 3 ∷ 4 ∷ 5 ∷ 9 ∷ []
 
 abbrev pub evaluateNumbers : List ℕ
 evaluateNumbers = 0 ∷ 1 ∷ 2 ∷ 3 ∷ 4 ∷ 9 ∷ 10 ∷ []
@@ -64,6 +67,7 @@ abbrev pub numbers : {n : ℕ} → Call n → List ℕ
 numbers (Call.fresh x x′ h) = freshNumbers
 numbers (Call.serve s w x x′ l l′ h) = serveNumbers
 numbers (Call.build s x x′ l o o′ z z′ h) = buildNumbers
+numbers (Call.run s l l′ z z′ h) = runNumbers
 numbers (Call.evaluate s list m ws o o′ z z′ h) = evaluateNumbers
 numbers (Call.map s b o o′ z z′ h) = mapNumbers
 numbers (Call.fix s b domain z z′ first i last first′ i′ last′ h) = walkNumbers
@@ -148,6 +152,12 @@ build-has : (x l : List ℕ) (o : Lists) (i : Input) (k : ℕ) → BuildRead x l
 build-has x l o i k (BuildRead.badContext n) = refl
 build-has x l o i k (BuildRead.good g c) = pool-has buildNumbers (poolOf i) (λ a. Built x l o i) refl refl refl (λ a. built-has x l o i) k c
 
+ran-has : (room : ℕ) (i : Input) (k : ℕ) → Ran room i k → among k runNumbers ≡ true
+ran-has room i k (Ran.lost c) = refl
+ran-has room i k (Ran.doublePrime c) = refl
+ran-has room i k (Ran.full g e n) = refl
+ran-has room i k (Ran.ran g e f) = refl
+
 evaluated-has : (list : List ℕ) (m : ℕ) (ws : List ℕ) (room : ℕ) (i : Input) (k : ℕ) → Evaluated list m ws room i k → among k evaluateNumbers ≡ true
 evaluated-has list m ws room i k (Evaluated.noRule c) = refl
 evaluated-has list m ws room i k (Evaluated.full c) = refl
@@ -160,18 +170,18 @@ evaluate-has list m ws room i k (EvaluateRead.formed f c) =
 
 mapped-has : (b : List ℕ) (room : ℕ) (z : Planned) (k : ℕ) → Mapped b room z k → among k mapNumbers ≡ true
 mapped-has b room z k (Mapped.full l) = refl
-mapped-has b room z k (Mapped.whole l) = refl
+mapped-has b room z k (Mapped.fits l) = refl
 
 fixed-has : (b : List ℕ) (domain counter : ℕ) (first i last : List ℕ) (z : Planned) (k : ℕ) → Fixed b domain counter first i last z k → among k walkNumbers ≡ true
 fixed-has b domain counter first i last z k (Fixed.noRule c) = refl
 fixed-has b domain counter first i last z k (Fixed.notThere c) = refl
-fixed-has b domain counter first i last z k (Fixed.full m n l) = refl
-fixed-has b domain counter first i last z k (Fixed.fixed m n l) = refl
+fixed-has b domain counter first i last z k (Fixed.full c) = refl
+fixed-has b domain counter first i last z k (Fixed.fixed c) = refl
 
-queried-has : (first i last : List ℕ) (z : Planned) (k : ℕ) → Queried first i last z k → among k walkNumbers ≡ true
-queried-has first i last z k (Queried.notThere c) = refl
-queried-has first i last z k (Queried.noRule c) = refl
-queried-has first i last z k (Queried.queried m n) = refl
+queried-has : (b first i last : List ℕ) (z : Planned) (k : ℕ) → Queried b first i last z k → among k walkNumbers ≡ true
+queried-has b first i last z k (Queried.notThere c) = refl
+queried-has b first i last z k (Queried.noRule c) = refl
+queried-has b first i last z k (Queried.queried c) = refl
 
 -- a step of a dimension pass is refused with 3, 10 or 12
 module _ (g : Given) where
@@ -231,10 +241,11 @@ way-has : {n : ℕ} (c : Call n) (k : ℕ) → Holds c k → among k (numbers c)
 way-has (Call.fresh x x′ h) k v = fresh-has x k v
 way-has (Call.serve s w x x′ l l′ h) k v = frames-has serveNumbers s (ServeRead w x l) refl refl (serve-has w x l) k v
 way-has (Call.build s x x′ l o o′ z z′ h) k v = frames-has buildNumbers s (BuildRead x l o) refl refl (build-has x l o) k v
+way-has (Call.run s l l′ z z′ h) k v = frames-has runNumbers s (λ i. OfPool (poolOf i) (λ a. Ran _ i)) refl refl (λ i j. pool-has runNumbers (poolOf i) (λ a. Ran _ i) refl refl refl (λ a. ran-has _ i) j) k v
 way-has (Call.evaluate s list m ws o o′ z z′ h) k v = frames-has evaluateNumbers s (EvaluateRead list m ws _) refl refl (evaluate-has list m ws _) k v
 way-has (Call.map s b o o′ z z′ h) k v = plan-has mapNumbers maps-plan s b true (Mapped b _) (mapped-has b _) k v
 way-has (Call.fix s b domain z z′ first i last first′ i′ last′ h) k v = plan-has walkNumbers walks-plan s b _ (Fixed b domain _ first i last) (fixed-has b domain _ first i last) k v
-way-has (Call.query s b first i last first′ i′ last′ h) k v = plan-has walkNumbers walks-plan s b _ (Queried first i last) (queried-has first i last) k v
+way-has (Call.query s b first i last first′ i′ last′ h) k v = plan-has walkNumbers walks-plan s b _ (Queried b first i last) (queried-has b first i last) k v
 way-has (Call.dimension s b d first i last first′ i′ last′ h) k v = plan-has walkNumbers walks-plan s b _ (Dimensioned d (first ∷ i ∷ last ∷ []) b) (dimensioned-has d (first ∷ i ∷ last ∷ []) b) k v
 way-has (Call.dimensionFirst s b first first′ h) k v = plan-has walkNumbers walks-plan s b _ (Dimensioned _ (first ∷ []) b) (dimensioned-has _ (first ∷ []) b) k v
 way-has (Call.search vc s es b e limit w w′ z z′ h) k v =

@@ -8,4 +8,8 @@ pub mod Exact
 pub mod ExactPlans
 pub mod Rows
 pub mod Gives
+pub mod Demand3
+pub mod Evaluated
 pub mod Examples
+pub mod Sample
+pub mod Useless

@@ -7,7 +7,11 @@ use mathlib.Core.Bool.{Bool, true}
 use mathlib.Core.List.{List, [], _∷_}
 use lib.ListN.{length, getD}
 use Rattle.meaning.specs.Refusals.{Refusal, Answer, done, refused, answerNo, _then_}
+use Rattle.meaning.specs.Building.{Segment}
 use Rattle.frames.specs.Reading.{reading}
+use Rattle.frames.specs.Taking.{Bytes}
+use Rattle.requests.specs.Whole.{totals, listAfter}
+use Rattle.requests.specs.Serving as requests
 use Rattle.builds.specs.Raw.{RawSegment}
 use Rattle.codegen.specs.Said.{Said}
 use Rattle.codegen.specs.Written.{Stands}
@@ -25,16 +29,17 @@ use Rattle.search_meaning.specs.Search.{Choice}
 use Rattle.sets.proofs.Words.{words-same}
 use Rattle.degree_search.specs.Choosing.{SetAfter}
 use Rattle.degree_search.specs.Searching.{asking}
-use Rattle.degree_search.specs.Unique.{one-run}
+use Rattle.degree_search.specs.Unique as search
 use Rattle.records.specs.Records.{RecordsMapped}
 use Rattle.records.specs.Exactly as records
 use Rattle.records.specs.declared.PolType.{PolType}
 use Rattle.host.specs.Numbered.{FreshNumbered, ServeNumbered, BuildNumbered, EvaluateNumbered, sizesTold, cellsTold}
+use Rattle.host.specs.Runs.{RunNumbered, totalsTold}
 use Rattle.host.specs.Maps.{MapNumbered}
 use Rattle.host.specs.Plans.{WalkNumbered, WalkCounted}
 use Rattle.host.specs.Searches.{SearchNumbered, setIs, choiceTold}
 use Rattle.promises.specs.Contracts.{QueryNumbered, DimensionNumbered, FirstNumbered}
-use Rattle.promises.specs.Bytes.{Bytes, one-list}
+use Rattle.promises.specs.Bytes.{one-list}
 
 -- ── generation ───────────────────────────────────────────────────────────────
 -- enonkasse_fresh: the number and the context
@@ -66,6 +71,13 @@ one-build s x l o z {x₁} {x₂} {o₁} {o₂} g h =
     same : (a : Answer RawSegment) → StandsBuilt (forestRead (reading s)) a x l o x₁ o₁ → StandsBuilt (forestRead (reading s)) a x l o x₂ o₂ → (x₁ ≡ x₂) × (o₁ ≡ o₂)
     same (done t) c d = (c .0 ∙ sym (d .0), c .1 ∙ sym (d .1))
     same (refused k i) c d = (c .0 ∙ sym (d .0), c .1 ∙ sym (d .1))
+
+-- enonkasse_run: the number, the list, and the two totals
+pub one-run :
+    (s l z : List ℕ) {l₁ l₂ z₁ z₂ : List ℕ} {n₁ n₂ : ℕ} → RunNumbered s l l₁ z z₁ n₁ → RunNumbered s l l₂ z z₂ n₂ → (n₁ ≡ n₂) × (l₁ ≡ l₂) × (z₁ ≡ z₂)
+one-run s l z g h =
+    let e = requests.one-run (reading s) (length l) (g .0) (h .0) (g .1) (h .1) in
+    (g .2 ∙ ap answerNo e ∙ sym (h .2), g .3 ∙ ap (listAfter l) e ∙ sym (h .3), g .4 ∙ ap (λ (a : Answer Segment). totalsTold (a then λ u. done (totals u)) z) e ∙ sym (h .4))
 
 -- ── the evaluator ────────────────────────────────────────────────────────────
 -- enonkasse_evaluate: the number, the cells' values, and how many they are
@@ -147,7 +159,7 @@ pub one-search :
 one-search s es b e limit w z {w₁} {w₂} g h p q =
     let c = g 0 in
     let d = h 0 in
-    let y : c .0 ≡ d .0 = one-run (reading s) (asking es 0 b e limit) (c .0) (d .0) (c .1) (d .1) in
+    let y : c .0 ≡ d .0 = search.one-run (reading s) (asking es 0 b e limit) (c .0) (d .0) (c .1) (d .1) in
     (c .2 ∙ ap answerNo y ∙ sym (d .2), same (c .0) (c .3) (c .4) (subst (λ (a : Answer Choice). SetAfter a w w₂) (sym y) (d .3)) (subst (λ (a : Answer Choice). setIs a w₂) (sym y) (d .4)), c .5 ∙ ap (λ (a : Answer Choice). choiceTold a z) y ∙ sym (d .5))
   where
     same : (a : Answer Choice) → SetAfter a w w₁ → setIs a w₁ → SetAfter a w w₂ → setIs a w₂ → w₁ ≡ w₂

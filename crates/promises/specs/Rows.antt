@@ -3,11 +3,12 @@
 --   1  frames `OfFrames.malformed`; result and context `ServeRead.badResult`, `badContext`, `BuildRead.badContext`; `FreshWay.malformed`; list, modulus and values
 --      `EvaluateRead.illFormed`; plan and lists `plan.Way.noPlan`, `illFormed`; records `SectionWay.malformed`
 --   2  `OfPool.childCount`, `plan.Way.childCount`
---   3  `OfPool.lost`, `plan.Way.lost`; of a request `Served.lost`; of a list `Fixed.notThere`, `Queried.notThere`, `Dimensioned.met`; of an identity `Row.notThere`
+--   3  `OfPool.lost`, `plan.Way.lost`; of a request `Served.lost`, `Ran.lost`; of a list `Fixed.notThere`, `Queried.notThere`, `Dimensioned.met`; of an identity `Row.notThere`
 --   4  `OfPool.cycle`, `plan.Way.cycle`
---   5  `Served.doublePrime`            6  `Row.badKind`
+--   5  `Served.doublePrime`, `Ran.doublePrime`
+--   6  `Row.badKind`
 --   7  `Served.noPrimedMark`           8  `Served.noBlock`
---   9  frames `OfFrames.past`; no room `Served.full`, `Built.full`, `Evaluated.full`, `Mapped.full`, `Fixed.full`, `SectionWay.full`; `plan.Way.tooMany`
+--   9  frames `OfFrames.past`; no room `Served.full`, `Built.full`, `Ran.full`, `Evaluated.full`, `Mapped.full`, `Fixed.full`, `SectionWay.full`; `plan.Way.tooMany`
 --   10 `Evaluated.noRule`, `Fixed.noRule`, `Queried.noRule`, `Dimensioned.met`
 --   11 `plan.Way.counts`               12 `plan.Way.undimensioned`, `Dimensioned.met`
 --   13 `Row.noSet`                     14 `Row.noQuotient`
@@ -31,12 +32,13 @@ use Rattle.dimensions.specs.Answers.{firstDimX}
 use Rattle.records.specs.Records.{recordsMapping, RecordsMapped}
 use Rattle.records.specs.declared.PolType.{PolType}
 use Rattle.host.specs.Numbered.{FreshNumbered, ServeNumbered, BuildNumbered, EvaluateNumbered}
+use Rattle.host.specs.Runs.{RunNumbered}
 use Rattle.host.specs.Maps.{MapNumbered}
 use Rattle.host.specs.Plans.{WalkCounted}
 use Rattle.host.specs.Searches.{SearchNumbered}
 use Rattle.promises.specs.Contracts.{QueryNumbered, DimensionNumbered, FirstNumbered}
-use Rattle.promises.specs.Ways.{FreshWay, ServeWay, BuildWay, EvaluateWay, MapWay, FixWay, QueryWay, DimensionWay, FirstWay, SearchWay, SectionWay}
-use Rattle.promises.specs.Exact.{both, of-serve, of-build, of-evaluate, of-search}
+use Rattle.promises.specs.Ways.{FreshWay, ServeWay, BuildWay, RunWay, EvaluateWay, MapWay, FixWay, QueryWay, DimensionWay, FirstWay, SearchWay, SectionWay}
+use Rattle.promises.specs.Exact.{of-serve, of-build, of-run, of-evaluate, of-search}
 use Rattle.promises.specs.ExactPlans.{of-map, of-fix, of-query, of-dimension, of-dimension-first, of-section}
 
 -- ── the statement ────────────────────────────────────────────────────────────
@@ -45,6 +47,7 @@ pub data Call (n : ℕ) : Type 0 where
   fresh : (x x′ : List ℕ) → FreshNumbered x x′ n → Call n
   serve : (s : List ℕ) (w : Wanted) (x x′ l l′ : List ℕ) → ServeNumbered s w x x′ l l′ n → Call n
   build : (s x x′ l : List ℕ) (o o′ : Lists) (z z′ : List ℕ) → BuildNumbered s x x′ l o o′ z z′ n → Call n
+  run : (s l l′ z z′ : List ℕ) → RunNumbered s l l′ z z′ n → Call n
   evaluate : (s list : List ℕ) (m : ℕ) (ws o o′ z z′ : List ℕ) → EvaluateNumbered s list m ws o o′ z z′ n → Call n
   map : (s b o o′ z z′ : List ℕ) → MapNumbered s b o o′ z z′ n → Call n
   fix : (s b : List ℕ) (domain : ℕ) (z z′ first i last first′ i′ last′ : List ℕ) → WalkCounted s b domain z z′ first i last first′ i′ last′ n → Call n
@@ -60,6 +63,7 @@ abbrev pub Holds : {n : ℕ} → Call n → ℕ → Type 0
 Holds (Call.fresh x x′ h) k = FreshWay x k
 Holds (Call.serve s w x x′ l l′ h) k = ServeWay s w x l k
 Holds (Call.build s x x′ l o o′ z z′ h) k = BuildWay s x l o k
+Holds (Call.run s l l′ z z′ h) k = RunWay s (length l) k
 Holds (Call.evaluate s list m ws o o′ z z′ h) k = EvaluateWay s list m ws (length o) k
 Holds (Call.map s b o o′ z z′ h) k = MapWay s b (length o) k
 Holds (Call.fix s b domain z z′ first i last first′ i′ last′ h) k = FixWay s b domain (getD z 0 0) first i last k
@@ -99,6 +103,7 @@ pub rows : {n : ℕ} (c : Call n) (k : ℕ) → (n ≡ k) ↔ Holds c k
 rows {n} (Call.fresh x x′ h) k = of-fresh x x′ n h k
 rows (Call.serve s w x x′ l l′ h) k = told (h .0) (h .2) (of-serve s w x l (h .0) (h .1) k)
 rows (Call.build s x x′ l o o′ z z′ h) k = told (h .0) (h .2) (of-build s x l o (h .0) (h .1) k)
+rows (Call.run s l l′ z z′ h) k = told (h .0) (h .2) (of-run s (length l) (h .0) (h .1) k)
 rows (Call.evaluate s list m ws o o′ z z′ h) k = told (h .0) (h .2) (of-evaluate s list m ws (length o) (h .0) (h .1) k)
 rows (Call.map s b o o′ z z′ h) k = told (h .0) (h .2) (of-map s b (length o) (h .0) (h .1) k)
 rows (Call.fix s b domain z z′ first i last first′ i′ last′ h) k = told (h .0) (h .2) (of-fix s b domain (getD z 0 0) first i last (h .0) (h .1) k)

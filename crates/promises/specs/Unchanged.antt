@@ -10,7 +10,9 @@ use native.Mathlib.Omega.{arith}
 use lib.ListN.{length, getD}
 use lib.Dec.{eqb}
 use Rattle.meaning.specs.Refusals.{Refusal, number, Answer, done, refused, answerNo, _then_}
+use Rattle.meaning.specs.Building.{Segment}
 use Rattle.frames.specs.Reading.{reading}
+use Rattle.requests.specs.Whole.{totals, listAfter}
 use Rattle.builds.specs.Raw.{RawSegment}
 use Rattle.context.specs.Context.{contextSize}
 use Rattle.context.specs.Tables.{freshBytes}
@@ -29,6 +31,7 @@ use Rattle.degree_search.specs.Choosing.{SetAfter}
 use Rattle.records.specs.Records.{RecordsMapped, recordsMapping, recordsAfter, columnAfter, sectionsOf, dimsOf}
 use Rattle.records.specs.declared.PolType.{PolType}
 use Rattle.host.specs.Numbered.{FreshNumbered, ServeNumbered, BuildNumbered, EvaluateNumbered, sizesTold, cellsTold}
+use Rattle.host.specs.Runs.{RunNumbered, totalsTold}
 use Rattle.host.specs.Maps.{MapNumbered}
 use Rattle.host.specs.Plans.{WalkNumbered, WalkCounted}
 use Rattle.host.specs.Searches.{SearchNumbered, choiceTold}
@@ -113,6 +116,17 @@ module _ (s x l : List ℕ) (o : Lists) (z : List ℕ) {x′ : List ℕ} {o′ :
       let r = is-refused (h .0) (h .2) y in
       let c : (x′ ≡ x) × (o′ ≡ o) = subst (λ (a : Answer RawSegment). StandsBuilt (forestRead (reading s)) a x l o x′ o′) (r .2) (h .3) in
       (c .0, c .1, h .4 ∙ ap (λ (a : Answer RawSegment). sizesTold (a then λ u. done (sizes u)) z) (r .2))
+
+module _ (s l z : List ℕ) {l′ z′ : List ℕ} {n : ℕ} (h : RunNumbered s l l′ z z′ n) where
+  -- enonkasse_run
+  pub answered-run : Answered n
+  answered-run = numbered (h .0) (h .2)
+
+  -- refused, the list and the totals are what they were
+  pub unchanged-run : (n ≡ 0 → ⊥) → (l′ ≡ l) × (z′ ≡ z)
+  unchanged-run y =
+      let r = is-refused (h .0) (h .2) y in
+      (h .3 ∙ ap (listAfter l) (r .2), h .4 ∙ ap (λ (a : Answer Segment). totalsTold (a then λ u. done (totals u)) z) (r .2))
 
 -- ── the evaluator ────────────────────────────────────────────────────────────
 module _ (s list : List ℕ) (m : ℕ) (ws o z : List ℕ) {o′ z′ : List ℕ} {n : ℕ} (h : EvaluateNumbered s list m ws o o′ z z′ n) where

@@ -1,7 +1,7 @@
 -- THE ROWS OF THE REFUSAL TABLE, for each exported function: the ways in which a call comes to a number, in the order of its checks, each with what must not have been refused before it.
 -- The first argument of a way is the number's condition; `Rows.antt` proves that a call has a number exactly when one of that number's ways is open.
 -- Assumes nothing: these are definitions.
-use Prim.Native.Nat.{ℕ, _<_, _≤_}
+use Prim.Native.Nat.{ℕ, _*_, _<_, _≤_}
 use mathlib.Core.Path.{_≡_}
 use mathlib.Core.Bool.{Bool, true, false, _&&_}
 use mathlib.Core.List.{List, [], _∷_}
@@ -12,8 +12,8 @@ use Rattle.meaning.specs.Refusals.{Refusal, number, Answer, done}
 use Rattle.meaning.specs.Trees.{Forest, Acyclic}
 use Rattle.meaning.specs.Running.{empty}
 use Rattle.meaning.specs.Generation.{Request}
+use Rattle.meaning.specs.Building.{Segment, whole}
 use Rattle.meaning.specs.Conditions.{Refused3, Refused5, Refused7, Refused8, FirstRefused}
-use Rattle.kinds.specs.declared.step.Step.{Step}
 use Rattle.frames.specs.Order.{Input}
 use Rattle.frames.specs.Reading.{framesIn, reading}
 use Rattle.frames.specs.Faults.{Wrong, Past, First}
@@ -23,7 +23,10 @@ use Rattle.pool.specs.Shaped.{Shaped}
 use Rattle.pool.specs.Admission.{ClosedWalk}
 use Rattle.pool.specs.Verdict.{SomeWrongCount, SomeNotThere}
 use Rattle.pool.specs.Numbered.{poolOf}
+use Rattle.kinds.specs.Steps.{stepSize}
+use Rattle.requests.specs.Generating.{numberLimit}
 use Rattle.requests.specs.Runs.{requestsOf}
+use Rattle.requests.specs.Exactly.{FirstLost, FirstDouble}
 use Rattle.context.specs.Context.{contextSize, Good}
 use Rattle.codegen.specs.Said.{Said, said, serveSaid, segmentSaid}
 use Rattle.codegen.specs.Results.{resultOf, asking, resultGood}
@@ -41,17 +44,14 @@ use Rattle.planning.specs.Planning.{Planned, Plans}
 use Rattle.planning.specs.Ways as plan
 use Rattle.plan_map.specs.Numbers.{mapBytes}
 use Rattle.plan_walks.specs.Fix.{isN, rulesIn}
-use Rattle.plan_walks.specs.Cms.{cmsOf}
 use Rattle.plan_walks.specs.Walks.{goodSegment}
 use Rattle.plan_walks.specs.Dimension.{givenBy}
-use Rattle.plan_tables.specs.Tables.{trees}
-use Rattle.lent_lists.specs.Verdicts as verdict
-use Rattle.lent_lists.specs.Records.{segmentIn, goodLists}
-use Rattle.lent_lists.specs.Walks.{recordVerdict}
+use Rattle.lent_lists.specs.Records.{goodLists}
 use Rattle.lists.specs.Records.{goodList}
-use Rattle.fixing.specs.ProverCode.{lastCounter, temporaries}
 use Rattle.fixing.specs.Conditions as fixing
-use Rattle.query_fixing.specs.QueryCode.{treedReference}
+use Rattle.query_fixing.specs.QueryConditions as query
+use Rattle.plans.specs.Agreement.{cmCount}
+use Rattle.plan_exactly.specs.Query.{NoCm}
 use Rattle.step_dimensions.specs.StepDimensions.{Given, unwritten}
 use Rattle.dimensions.specs.Answers.{firstDimX}
 use Rattle.dimensions.specs.Conditions.{StepsRefused, allRecords}
@@ -128,6 +128,22 @@ module _ (x l : List ℕ) (o : Lists) (i : Input) where
 abbrev pub BuildWay : List ℕ → List ℕ → List ℕ → Lists → ℕ → Type 0
 BuildWay s x l o k = OfFrames s (BuildRead x l o) k
 
+-- ── enonkasse_run ────────────────────────────────────────────────────────────
+module _ (room : ℕ) (i : Input) where
+  -- the first list has room, and the counter is a number of 16 bits
+  abbrev pub RunFits : Segment → Type 0
+  RunFits g = (stepSize * length (g .first) ≤ room) × (g .counter < numberLimit)
+
+  -- the first request that is refused on a fresh context
+  pub data Ran : ℕ → Type 0 where
+    lost : FirstLost i → Ran 3
+    doublePrime : FirstDouble i → Ran 5
+    full : (g : Segment) → whole 2 (forest (poolOf i)) (requestsOf i) ≡ done g → (RunFits g → ⊥) → Ran 9
+    ran : (g : Segment) → whole 2 (forest (poolOf i)) (requestsOf i) ≡ done g → RunFits g → Ran 0
+
+abbrev pub RunWay : List ℕ → ℕ → ℕ → Type 0
+RunWay s room k = OfFrames s (λ i. OfPool (poolOf i) (λ c. Ran room i)) k
+
 -- ── enonkasse_evaluate ───────────────────────────────────────────────────────
 module _ (list : List ℕ) (m : ℕ) (ws : List ℕ) (room : ℕ) (i : Input) where
   pub data Evaluated : ℕ → Type 0 where
@@ -155,42 +171,33 @@ module _ (s b : List ℕ) (own : Bool) (C : Planned → ℕ → Type 0) where
 module _ (b : List ℕ) (room : ℕ) (z : Planned) where
   pub data Mapped : ℕ → Type 0 where
     full : room < length (mapBytes b z) → Mapped 9
-    whole : length (mapBytes b z) ≤ room → Mapped 0
+    fits : length (mapBytes b z) ≤ room → Mapped 0
 
 abbrev pub MapWay : List ℕ → List ℕ → ℕ → ℕ → Type 0
 MapWay s b room k = OfPlan s b true (Mapped b room) k
 
 -- enonkasse_fix
 module _ (b : List ℕ) (domain counter : ℕ) (first i last : List ℕ) (z : Planned) where
-  abbrev pub cms : List ℕ
-  cms = cmsOf (isN domain) (z .mapping .sections)
-
-  abbrev pub next : ℕ
-  next = temporaries (rulesIn (isN domain) b z) counter first i last .next
-
+  -- the lists' first fault, in fixing/specs/Conditions.antt; a cm is there where its number is below the plan's count of cm
   pub data Fixed : ℕ → Type 0 where
-    noRule : fixing.Refused10 cms counter first i last → Fixed 10
-    notThere : fixing.Refused3 cms counter first i last → Fixed 3
-    -- neither, and the counter after it has no number of 16 bits
-    full : (fixing.Refused10 cms counter first i last → ⊥) → (fixing.Refused3 cms counter first i last → ⊥) → lastCounter < next → Fixed 9
-    fixed : (fixing.Refused10 cms counter first i last → ⊥) → (fixing.Refused3 cms counter first i last → ⊥) → next ≤ lastCounter → Fixed 0
+    noRule : fixing.Refused10 (cmCount b) counter first i last → Fixed 10
+    notThere : fixing.Refused3 (cmCount b) counter first i last → Fixed 3
+    full : fixing.Refused9 (cmCount b) (rulesIn (isN domain) b z) counter first i last → Fixed 9
+    fixed : fixing.Accepted (cmCount b) (rulesIn (isN domain) b z) counter first i last → Fixed 0
 
 abbrev pub FixWay : List ℕ → List ℕ → ℕ → ℕ → List ℕ → List ℕ → List ℕ → ℕ → Type 0
 FixWay s b domain counter first i last k = OfPlan s b (goodSegment domain counter first i last) (Fixed b domain counter first i last) k
 
 -- enonkasse_query
-module _ (first i last : List ℕ) (z : Planned) where
-  -- the first record of the three lists that is not fine has this verdict
-  abbrev pub FirstQueried : (Step → Type 0) → Type 0
-  FirstQueried Q = fixing.First (λ r. recordVerdict (treedReference (trees (z .mapping))) r ≡ verdict.fine) Q (segmentIn first i last)
-
+module _ (b first i last : List ℕ) (z : Planned) where
+  -- the lists' first fault, in query_fixing/specs/QueryConditions.antt
   pub data Queried : ℕ → Type 0 where
-    notThere : FirstQueried (λ r. recordVerdict (treedReference (trees (z .mapping))) r ≡ verdict.notThere) → Queried 3
-    noRule : FirstQueried (λ r. recordVerdict (treedReference (trees (z .mapping))) r ≡ verdict.noRule) → Queried 10
-    queried : (FirstQueried (λ r. recordVerdict (treedReference (trees (z .mapping))) r ≡ verdict.notThere) → ⊥) → (FirstQueried (λ r. recordVerdict (treedReference (trees (z .mapping))) r ≡ verdict.noRule) → ⊥) → Queried 0
+    noRule : query.Refused10 (NoCm b) first i last → Queried 10
+    notThere : query.Refused3 (NoCm b) first i last → Queried 3
+    queried : query.Accepted (NoCm b) first i last → Queried 0
 
 abbrev pub QueryWay : List ℕ → List ℕ → List ℕ → List ℕ → List ℕ → ℕ → Type 0
-QueryWay s b first i last k = OfPlan s b (goodLists first i last) (Queried first i last) k
+QueryWay s b first i last k = OfPlan s b (goodLists first i last) (Queried b first i last) k
 
 -- enonkasse_dimension and enonkasse_dimension_first
 module _ (d : ℕ) (ls : List (List ℕ)) (b : List ℕ) (z : Planned) where
