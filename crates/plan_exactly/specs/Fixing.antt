@@ -46,7 +46,7 @@ module _ (s b : List ℕ) (domain counter : ℕ) (first i last : List ℕ) where
   verdict z = proverVerdict (rulesIn (isN domain) b z) (cmsOf (isN domain) (z .mapping .sections)) counter first i last
 
   -- of how many cm, with which rules
-  by-plan :
+  pub by-plan :
       (w : Verdict) (C : ℕ → List ℕ → Type 0) → ((rules cms : List ℕ) → (proverVerdict rules cms counter first i last ≡ w) ↔ C (length cms) rules) →
       (z : Planned) → Plans b own (reading s) (done z) → (answerNo (fixBy counter first i last (isN domain) b z) ≡ verdictNo w) ↔ C (cmCount b) (rulesIn (isN domain) b z)
   unfolding fixWith

@@ -72,7 +72,7 @@ module _ (s b first i last : List ℕ) where
   abbrev own : Bool
   own = goodLists first i last
 
-  by-plan :
+  pub by-plan :
       (w : Verdict) (C : (Reference → Type 0) → Type 0) → ((trees : List ℕ) → (queryVerdict trees first i last ≡ w) ↔ C (Lost trees)) →
       ((A B : Reference → Type 0) → ((r : Reference) → A r ↔ B r) → C A → C B) →
       (z : Planned) → Plans b own (reading s) (done z) → (answerNo (queryBy first i last z) ≡ verdictNo w) ↔ C (NoCm b)
