@@ -78,3 +78,21 @@ pub fn plan(pool: &Pool, records: usize) -> Plan {
 pub fn largest_plan(pool: &Pool) -> Plan {
     plan(pool, MAX_RECORDS)
 }
+
+#[cfg(test)]
+mod tests {
+    use super::*;
+    use judge::pool::{MAX_EXPRESSIONS, MAX_NODES};
+
+    #[test]
+    fn pools_and_plans_are_as_large_as_can_be() {
+        for reading in [Reading::Others, Reading::Columns] {
+            let pool = regular(MAX_NODES, reading);
+            assert_eq!(pool.nodes().len(), MAX_NODES);
+            assert_eq!(pool.expressions().len(), MAX_EXPRESSIONS);
+            assert_eq!(both_ways(&pool).len(), 2 * MAX_EXPRESSIONS);
+            assert_eq!(largest_plan(&pool).records(), MAX_RECORDS);
+        }
+        assert_eq!(chain(MAX_NODES).nodes().len(), MAX_NODES);
+    }
+}

@@ -96,3 +96,40 @@ pub fn print(cases: &[Case]) {
         );
     }
 }
+
+#[cfg(test)]
+mod tests {
+    use super::*;
+
+    #[test]
+    fn the_median_is_in_the_middle() {
+        let samples = [9, 1, 3].map(Duration::from_millis);
+        assert_eq!(median(samples.to_vec()), Duration::from_millis(3));
+    }
+
+    #[test]
+    fn times_have_their_unit() {
+        assert_eq!(shown(Duration::from_millis(2320)), "2.32 s");
+        assert_eq!(shown(Duration::from_micros(6090)), "6.09 ms");
+        assert_eq!(shown(Duration::from_nanos(877_400)), "877.4 us");
+    }
+
+    #[test]
+    fn sides_take_turns() {
+        use std::cell::RefCell;
+        use std::rc::Rc;
+        let order = Rc::new(RefCell::new(String::new()));
+        let side = |letter: char| -> Work {
+            let order = Rc::clone(&order);
+            Box::new(move || {
+                order.borrow_mut().push(letter);
+                Duration::from_secs(1)
+            })
+        };
+        let (port, original) = (side('p'), side('o'));
+        let title = String::new();
+        let mut pair = Pair { title, port, original, aim: None, units: (1, "unit") };
+        assert_eq!(medians(&mut pair).ratio(), 1.0);
+        assert!(order.borrow().starts_with("popopo"));
+    }
+}
