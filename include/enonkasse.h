@@ -331,6 +331,8 @@ uint8_t enonkasse_search(const uint8_t *frames, size_t frames_size, const uint64
  * ascending order, gets the cm number commitments + k; the qs are the n_cm4 numbers from the first one on.
  */
 #define ENONKASSE_CONSTRAINT_NUMBERS 6
+/* Bytes that always suffice for the frames of a pool: 19 for an addc or mulc, 6 for an expression. */
+#define ENONKASSE_MAX_FRAMES_SIZE 80896
 
 /* Marks expressions of a pool that has so many at both rows: they stand in columns, and no list makes them any more. Nothing else of
  * the context changes. Refuses 9 of more than ENONKASSE_MAX_EXPRESSIONS expressions, 1 of the context, 3 of a member. */

@@ -3,7 +3,8 @@
 use crate::record::{encoded, framed, pool_frames, said};
 use crate::searched;
 use enonkasse_sys::{
-    self as library, CONSTRAINT_NUMBERS, CONTEXT_SIZE, LIST_ROOM, SET_WORDS, STEP_SIZE,
+    self as library, CONSTRAINT_NUMBERS, CONTEXT_SIZE, LIST_ROOM, MAX_FRAMES_SIZE, SET_WORDS,
+    STEP_SIZE,
 };
 use judge::answer::StepBytes;
 use judge::hex;
@@ -13,9 +14,6 @@ use searches::constraint::{Built, Constraint, Made};
 use searches::question::{Answer, Question};
 use searches::search::Found;
 use searches::tally::{Labelled, Questions, Said, Tally};
-
-/// Bytes that the frames of a pool with its constraint may have.
-const FRAMES_ROOM: usize = 1 << 17;
 
 /// Why a piece did not come to its end: its number, or what is wrong with what it left.
 enum Stop {
@@ -102,7 +100,7 @@ fn extended(
     q: usize,
 ) -> Result<Extended, Stop> {
     let Constraint { n_cm1, n_cm2, commitments, vc, ref search, .. } = *constraint;
-    let (mut out, mut numbers) = (vec![0; FRAMES_ROOM], [0; CONSTRAINT_NUMBERS]);
+    let (mut out, mut numbers) = (vec![0; MAX_FRAMES_SIZE], [0; CONSTRAINT_NUMBERS]);
     done(library::constraint_pool(
         &pool_frames(&search.pool),
         &searched::identities(search),
