@@ -18,7 +18,7 @@ same-length-2 : tie.Need-same-length-2
 same-length-2 c = search needs
 
 returns : tie.Need-returns
-returns c = close-numbered _ _ _ _ _ _ _ (c .before .before .before .before .before .close .ensures) (c .closed-number .ensures)
+returns c = close-numbered (c .before .before .before .before .before .before .before .before .before .before .args .expressions) _ _ _ _ _ _ (c .before .before .before .before .before .close .ensures) (c .closed-number .ensures)
 
 pub enonkasse-close-spec : {M : Type 1} → statement M
 enonkasse-close-spec =

@@ -15,7 +15,7 @@ same-length : tie.Need-same-length
 same-length c = search needs
 
 returns : tie.Need-returns
-returns c = mark-numbered _ _ _ _ (c .before .before .before .before .before .before .before .before .args .list .now) _ _ (c .before .before .before .mark .ensures) (c .marked-number .ensures)
+returns c = mark-numbered _ (c .before .before .before .before .before .before .before .before .args .expressions) _ _ (c .before .before .before .before .before .before .before .before .args .list .now) _ _ (c .before .before .before .mark .ensures) (c .marked-number .ensures)
 
 pub enonkasse-mark-spec : {M : Type 1} → statement M
 enonkasse-mark-spec = tie.close (tie.spec mark-requires marked-number-requires same-length returns)
