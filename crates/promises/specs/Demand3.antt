@@ -6,7 +6,7 @@ use Prim.Native.Nat.{ℕ, _<_, _≤_}
 use mathlib.Core.Path.{_≡_, refl, sym, _∙_, ap, subst}
 use mathlib.Core.Bool.{Bool, true, false, cond}
 use mathlib.Core.Option.{none}
-use mathlib.Core.List.{List, [], _∷_, _++_}
+use mathlib.Core.List.{List, [], _++_}
 use native.Mathlib.Omega.{arith}
 use lib.ListN.{length, getD, set}
 use lib.Seq.{getD-set-same, getD-set-other}
@@ -34,18 +34,16 @@ use Rattle.requests.specs.Runs.{requestsOf, BytesRun}
 use Rattle.requests.specs.Serving.{plain-requests}
 use Rattle.requests.specs.Demand3.{demand3-read}
 use Rattle.builds.specs.Raw.{RawSegment}
-use Rattle.context.specs.Context.{contextSize, Good, Exactly}
+use Rattle.context.specs.Context.{contextSize}
 use Rattle.context.specs.Tables.{freshBytes}
 use Rattle.codegen.specs.Said.{Said, said, segmentSaid}
 use Rattle.codegen.specs.Written.{Stands}
 use Rattle.codegen.specs.Serving.{OrMalformed, Serves}
-use Rattle.codegen.specs.Building.{Lists, fitsAll, AnsweredBuild, Builds, StandsBuilt, listsWith, sizes, forestRead}
+use Rattle.codegen.specs.Building.{Lists, fitsAll, AnsweredBuild, StandsBuilt, sizes, forestRead}
 use Rattle.codegen.specs.Sessions.{Session, demand3-session}
-use Rattle.plan_walks.specs.Walks.{Walked, goodSegment, listsAfter, walkSays}
-use Rattle.plan_walks.specs.Fix.{isN, fixBy, FixIs}
-use Rattle.plan_walks.specs.declared.walk.Walk.{Walk}
+use Rattle.plan_walks.specs.Walks.{Walked}
+use Rattle.plan_walks.specs.Fix.{isN, FixIs}
 use Rattle.plan_walks.specs.declared.walk.Walk.the-variants as walk
-use Rattle.planning.specs.Planning.{Goes}
 use Rattle.plan_demand3.specs.Conditions.{IntermediatesDiffer, NoLeafReadsIntermediate, planFor}
 use Rattle.plan_demand3.specs.Demand3Plan.{PlanComputes, demand3-plan}
 use Rattle.host.specs.Numbered.{FreshNumbered, ServeNumbered, BuildNumbered, wanted, sizesTold, cellsTold}
@@ -178,17 +176,21 @@ demand3-build 𝓐 E qs x l calls s i r same x′ o o′ z z′ h G leaves given
       computes = y .2;
     }
 
+-- a call of enonkasse_fix that is answered with 0 is one of `fix` that is done, with the counter that it tells
+pub fix-call :
+    (s b : List ℕ) (domain : ℕ) (z z′ first i last first′ i′ last′ : List ℕ) (counter : ℕ) → getD z 0 0 ≡ counter → WalkCounted s b domain z z′ first i last first′ i′ last′ 0 →
+    (n : ℕ) × FixIs s b domain counter first i last first′ i′ last′ (walk.Done n) × (z′ ≡ set z 0 n)
+fix-call s b domain z z′ first i last first′ i′ last′ counter counted h =
+    let d = is-done (h .0) (h .2) in
+    let n : ℕ = d .0 .counter in
+    let is : FixIs s b domain (getD z 0 0) first i last first′ i′ last′ (walk.Done n)
+    = record { answer = h .0; goes = h .1; does = record { says = sym (ap (λ (a : Answer Walked). a then λ u. done (u .counter)) (d .1)); lists = h .3 } } in
+    (n, subst (λ c. FixIs s b domain c first i last first′ i′ last′ (walk.Done n)) counted is, h .4 ∙ ap (λ (a : Answer Walked). cellsTold (a then λ u. done (u .counter)) z) (d .1))
+
 pub demand3-fix : (𝓐 : Algebra) → Demand3Fix 𝓐
 demand3-fix 𝓐 s room g run i r b bytes differ alone domain z z′ first′ i′ last′ counted h G fed =
-    let d = is-done (h .0) (h .2) in
-    let w : Walked = d .0 in
-    let is : FixIs s b domain (getD z 0 0) (encoded (g .first)) (encoded (g .i)) (encoded (g .last)) first′ i′ last′ (walk.Done (w .counter))
-    = record { answer = h .0; goes = h .1; does = record { says = sym (ap (λ (a : Answer Walked). a then λ u. done (u .counter)) (d .1)); lists = h .3 } } in
-    let call = subst (λ c. FixIs s b domain c (encoded (g .first)) (encoded (g .i)) (encoded (g .last)) first′ i′ last′ (walk.Done (w .counter))) counted is in (
-      w .counter,
-      h .4 ∙ ap (λ (a : Answer Walked). cellsTold (a then λ u. done (u .counter)) z) (d .1),
-      demand3-plan 𝓐 s room g run i r b bytes differ alone domain first′ i′ last′ (walk.Done (w .counter)) call (w .counter) refl G fed,
-    )
+    let c = fix-call s b domain z z′ (encoded (g .first)) (encoded (g .i)) (encoded (g .last)) first′ i′ last′ (g .counter) counted h in
+    (c .0, c .2, demand3-plan 𝓐 s room g run i r b bytes differ alone domain first′ i′ last′ (walk.Done (c .0)) (c .1) (c .0) refl G fed)
 
 -- ── over the integers, and modulo every number from 2 up ─────────────────────
 pub demand3-run-integers : Demand3Run integers

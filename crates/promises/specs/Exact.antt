@@ -4,13 +4,13 @@ use Prim.Native.Nat.{ℕ, _*_}
 use mathlib.Core.Path.{_≡_, refl, sym, _∙_, ap, subst}
 use mathlib.Core.Bool.{Bool, true, false, cond, _&&_}
 use mathlib.Core.Option.{Option, none}
-use mathlib.Core.List.{List, [], _∷_}
+use mathlib.Core.List.{List, []}
 use mathlib.Core.Logic.{_⊎_, inl, inr, _↔_}
 use native.Mathlib.Omega.{arith}
 use lib.ListN.{length}
 use lib.Dec.{leb, ltb}
 use borrow.Author.Tests.{leb-true, leb-false, le-leb, ltb-true, ltb-false, lt-ltb}
-use Rattle.meaning.specs.Refusals.{Refusal, number, Answer, done, refused, _then_, answerNo}
+use Rattle.meaning.specs.Refusals.{Refusal, Answer, done, refused, _then_, answerNo}
 use Rattle.meaning.specs.Trees.{Forest, Acyclic}
 use Rattle.meaning.specs.Running.{empty}
 use Rattle.meaning.specs.Generation.{Request, start, serveAll}

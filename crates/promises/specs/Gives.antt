@@ -6,7 +6,7 @@ use mathlib.Core.Bool.{Bool, true, false, _||_}
 use mathlib.Core.List.{List, [], _∷_}
 use mathlib.Core.Logic.{_⊎_, inl, inr}
 use lib.Dec.{eqb}
-use Rattle.meaning.specs.Refusals.{Refusal, number, Answer, refused, answerNo}
+use Rattle.meaning.specs.Refusals.{Refusal, number, answerNo}
 use Rattle.meaning.specs.Trees.{Acyclic}
 use Rattle.meaning.specs.Laws.Tests.{number-not-zero}
 use Rattle.kinds.specs.declared.reference.Reference.{Reference}

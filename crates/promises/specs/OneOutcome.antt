@@ -2,11 +2,11 @@
 -- Two are stated of what a slice holds, since a contract speaks of numbers: the list after `serve` of bytes, the set after `search` of 64-bit words. Nothing is left open.
 -- Assumes nothing.
 use Prim.Native.Nat.{ℕ, _^_, _<_}
-use mathlib.Core.Path.{_≡_, refl, sym, _∙_, ap, subst}
+use mathlib.Core.Path.{_≡_, sym, _∙_, ap, subst}
 use mathlib.Core.Bool.{Bool, true}
 use mathlib.Core.List.{List, [], _∷_}
 use lib.ListN.{length, getD}
-use Rattle.meaning.specs.Refusals.{Refusal, Answer, done, refused, answerNo, _then_}
+use Rattle.meaning.specs.Refusals.{Answer, done, refused, answerNo, _then_}
 use Rattle.meaning.specs.Building.{Segment}
 use Rattle.frames.specs.Reading.{reading}
 use Rattle.frames.specs.Taking.{Bytes}

@@ -1,7 +1,7 @@
 -- DEMAND 1: every call is answered with 0 or with one of document 01's seventeen numbers; and a number other than 0 means that every lent buffer is what it was.
 -- Assumes nothing.
 use Prim.Native.Nat.{ℕ, _≤_}
-use mathlib.Core.Path.{_≡_, refl, sym, _∙_, ap, subst}
+use mathlib.Core.Path.{_≡_, refl, _∙_, ap, subst}
 use mathlib.Core.Bool.{Bool, true, false, cond}
 use mathlib.Core.Option.{Option}
 use mathlib.Core.List.{List, [], _∷_}
@@ -25,7 +25,6 @@ use Rattle.planning.specs.Planning.{Planned}
 use Rattle.plan_map.specs.Whole as map
 use Rattle.plan_walks.specs.Walks.{Walked, listsAfter}
 use Rattle.search_meaning.specs.Search.{Choice}
-use Rattle.sections.specs.Sections.{Mapping}
 use Rattle.sections.specs.Answer.{positionsAfter, widthsAfter}
 use Rattle.degree_search.specs.Choosing.{SetAfter}
 use Rattle.records.specs.Records.{RecordsMapped, recordsMapping, recordsAfter, columnAfter, sectionsOf, dimsOf}

@@ -6,9 +6,9 @@ use mathlib.Core.Path.{_≡_}
 use mathlib.Core.Bool.{Bool, true, false, _&&_}
 use mathlib.Core.List.{List, [], _∷_}
 use mathlib.Core.Logic.{_⊎_}
-use lib.ListN.{length, getD}
+use lib.ListN.{length}
 use lib.Dec.{eqb}
-use Rattle.meaning.specs.Refusals.{Refusal, number, Answer, done}
+use Rattle.meaning.specs.Refusals.{Refusal, number, done}
 use Rattle.meaning.specs.Trees.{Forest, Acyclic}
 use Rattle.meaning.specs.Running.{empty}
 use Rattle.meaning.specs.Generation.{Request}
@@ -52,7 +52,7 @@ use Rattle.fixing.specs.Conditions as fixing
 use Rattle.query_fixing.specs.QueryConditions as query
 use Rattle.plans.specs.Agreement.{cmCount}
 use Rattle.plan_exactly.specs.Query.{NoCm}
-use Rattle.step_dimensions.specs.StepDimensions.{Given, unwritten}
+use Rattle.step_dimensions.specs.StepDimensions.{unwritten}
 use Rattle.dimensions.specs.Answers.{firstDimX}
 use Rattle.dimensions.specs.Conditions.{StepsRefused, allRecords}
 use Rattle.search_meaning.specs.SearchCases.{Row}
