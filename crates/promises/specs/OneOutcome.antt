@@ -39,7 +39,7 @@ use Rattle.host.specs.Maps.{MapNumbered}
 use Rattle.host.specs.Plans.{WalkNumbered, WalkCounted}
 use Rattle.host.specs.Searches.{SearchNumbered, setIs, choiceTold}
 use Rattle.promises.specs.Contracts.{QueryNumbered, DimensionNumbered, FirstNumbered}
-use Rattle.promises.specs.Bytes.{one-list}
+use Rattle.answers.specs.ListBytes.{one-list}
 
 -- ── generation ───────────────────────────────────────────────────────────────
 -- enonkasse_fresh: the number and the context

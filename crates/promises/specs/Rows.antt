@@ -36,9 +36,9 @@ use Rattle.host.specs.Maps.{MapNumbered}
 use Rattle.host.specs.Plans.{WalkCounted}
 use Rattle.host.specs.Searches.{SearchNumbered}
 use Rattle.promises.specs.Contracts.{QueryNumbered, DimensionNumbered, FirstNumbered}
-use Rattle.promises.specs.Ways.{FreshWay, ServeWay, BuildWay, RunWay, EvaluateWay, MapWay, FixWay, QueryWay, DimensionWay, FirstWay, SearchWay, SectionWay}
-use Rattle.promises.specs.Exact.{of-serve, of-build, of-run, of-evaluate, of-search}
-use Rattle.promises.specs.ExactPlans.{of-map, of-fix, of-query, of-dimension, of-dimension-first, of-section}
+use Rattle.answers.specs.Ways.{FreshWay, ServeWay, BuildWay, RunWay, EvaluateWay, MapWay, FixWay, QueryWay, DimensionWay, FirstWay, SearchWay, SectionWay}
+use Rattle.answers.specs.Exact.{of-serve, of-build, of-run, of-evaluate, of-search}
+use Rattle.answers.specs.ExactPlans.{of-map, of-fix, of-query, of-dimension, of-dimension-first, of-section}
 
 -- ── the statement ────────────────────────────────────────────────────────────
 -- A CALL that is answered with n: the function, what it takes, and that its contract holds of what stands after it

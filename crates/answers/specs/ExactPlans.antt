@@ -1,4 +1,4 @@
--- EACH NUMBER EXACTLY WHEN one of its ways is open, of the exported functions that go by a plan, and of the mapping of records. `Rows.antt` has the statement.
+-- EACH NUMBER EXACTLY WHEN one of its ways is open, of the exported functions that go by a plan, and of the mapping of records.
 -- Assumes nothing.
 use Prim.Native.Nat.{ℕ}
 use mathlib.Core.Path.{_≡_, refl, sym, _∙_, ap, subst}
@@ -55,9 +55,9 @@ use Rattle.sections.specs.Sections as sections
 use Rattle.records.specs.Records.{recordsMapping}
 use Rattle.records.specs.Exactly as records
 use Rattle.records.specs.declared.PolType.{PolType}
-use Rattle.promises.specs.Ways as way
-use Rattle.promises.specs.Ways.{OfPlan}
-use Rattle.promises.specs.Exact.{both}
+use Rattle.answers.specs.Ways as way
+use Rattle.answers.specs.Ways.{OfPlan}
+use Rattle.answers.specs.Exact.{both}
 
 -- ── a plan ───────────────────────────────────────────────────────────────────
 -- where there is a plan, what else the function takes is well formed
