@@ -38,7 +38,7 @@ use Rattle.host.specs.Runs.{RunNumbered, totalsTold}
 use Rattle.host.specs.Maps.{MapNumbered}
 use Rattle.host.specs.Plans.{WalkNumbered, WalkCounted}
 use Rattle.host.specs.Searches.{SearchNumbered, setIs, choiceTold}
-use Rattle.promises.specs.Contracts.{QueryNumbered, DimensionNumbered, FirstNumbered}
+use Rattle.promises.specs.Contracts.{QueryNumbered, DimensionNumbered, FirstNumbered, nthOf}
 use Rattle.answers.specs.ListBytes.{one-list}
 
 -- ── generation ───────────────────────────────────────────────────────────────
@@ -103,10 +103,6 @@ one-walk :
 one-walk s b own what ls g h =
     let e = one-gone b own what (reading s) (g .0) (h .0) (g .1) (h .1) in
     (g .2 ∙ ap answerNo e ∙ sym (h .2), g .3 ∙ ap (listsAfter ls) e ∙ sym (h .3))
-
--- lists are the same one by one
-abbrev nthOf : ℕ → List (List ℕ) → List ℕ
-nthOf k ls = getD ls k []
 
 -- enonkasse_fix: the number, the counter, and the three lists
 pub one-fix :
