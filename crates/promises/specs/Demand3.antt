@@ -100,7 +100,7 @@ Demand3Fix 𝓐 =
 
 -- ── the proofs ───────────────────────────────────────────────────────────────
 -- a number 0 is that of an answer that is done
-is-done : {A : Type 0} (a : Answer A) → 0 ≡ answerNo a → (x : A) × (a ≡ done x)
+pub is-done : {A : Type 0} (a : Answer A) → 0 ≡ answerNo a → (x : A) × (a ≡ done x)
 is-done (done x) e = (x, refl)
 is-done (refused k o) e = absurd (number-not-zero k (sym e))
 
@@ -111,7 +111,7 @@ demand3-run 𝓐 s l l′ z z′ h =
     record { input = c .0; read = c .1; steps = d .0 .first; list = h .3 ∙ ap (listAfter l) (d .1); computes = c .2 }
 
 -- calls are a session
-session : (E : Forest) {qs : List Request} {x l : List ℕ} → Calls E qs x l → Session E qs x l
+pub session : (E : Forest) {qs : List Request} {x l : List ℕ} → Calls E qs x l → Session E qs x l
 session E (Calls.fresh x x′ l h) = go (eqb (length x) contextSize) (h .number) (h .bytes)
   where
     go : (b : Bool) → _≡_ {A = ℕ} 0 (cond b 0 1) → x′ ≡ cond b (freshBytes contextSize) x → Session E [] x′ l
@@ -129,27 +129,33 @@ none-asked E (Calls.fresh x x′ l h) = tt
 none-asked E (Calls.serve qs x l c s i r same x′ l′ h) = each-join NoResult qs (requestsOf i) (none-asked E c) (plain-requests (i .requests))
 
 -- a build that is done is that of an admitted pool, and its lists are the context's
-built-is :
-    (i : Input) (x l : List ℕ) (o : Lists) (g : RawSegment) → AnsweredBuild (poolOf i) (length (i .expressions)) x l o (done g) →
-    Acyclic (forest (poolOf i)) × (g ≡ segmentSaid (forest (poolOf i)) (said x l))
-built-is i x l o g (b, ex, h) = go b h
-  where
-    room : (t : Bool) → done g ≡ cond t (done (segmentSaid (forest (poolOf i)) (said x l))) (refused Refusal.full none) → g ≡ (segmentSaid (forest (poolOf i)) (said x l))
-    room true e = done-same g (segmentSaid (forest (poolOf i)) (said x l)) e
-    room false e = absurd (done-not-refused e)
+module _ (i : Input) (x l : List ℕ) (o : Lists) (g : RawSegment) where
+  abbrev ofContext : RawSegment
+  ofContext = segmentSaid (forest (poolOf i)) (said x l)
 
-    judged :
-        (v : Answer (Unit {0})) → Verdict (poolOf i) [] v → done g ≡ (v then λ _. cond (fitsAll o (segmentSaid (forest (poolOf i)) (said x l))) (done (segmentSaid (forest (poolOf i)) (said x l))) (refused Refusal.full none)) →
-        Acyclic (forest (poolOf i)) × (g ≡ (segmentSaid (forest (poolOf i)) (said x l)))
-    judged (done u) v e = (exactly-0 (poolOf i) (done u) v .0 refl .1, room (fitsAll o (segmentSaid (forest (poolOf i)) (said x l))) e)
-    judged (refused k n) v e = absurd (done-not-refused e)
+  pub record IsBuilt : Type 0 where
+    pub admitted : Verdict (poolOf i) [] (done tt)
+    pub acyclic : Acyclic (forest (poolOf i))
+    pub lists : g ≡ ofContext
 
-    go :
-        (b : Bool) →
-        OrMalformed b (done g) ((v : Answer (Unit {0})) × Verdict (poolOf i) [] v × (done g ≡ (v then λ _. cond (fitsAll o (segmentSaid (forest (poolOf i)) (said x l))) (done (segmentSaid (forest (poolOf i)) (said x l))) (refused Refusal.full none)))) →
-        Acyclic (forest (poolOf i)) × (g ≡ (segmentSaid (forest (poolOf i)) (said x l)))
-    go true (v, j, e) = judged v j e
-    go false e = absurd (done-not-refused e)
+  -- what the verdict v makes of it
+  abbrev judgedBy : Answer (Unit {0}) → Answer RawSegment
+  judgedBy v = v then λ _. cond (fitsAll o ofContext) (done ofContext) (refused Refusal.full none)
+
+  pub built-is : AnsweredBuild (poolOf i) (length (i .expressions)) x l o (done g) → IsBuilt
+  built-is (b, ex, h) = go b h
+    where
+      room : (t : Bool) → done g ≡ cond t (done ofContext) (refused Refusal.full none) → g ≡ ofContext
+      room true e = done-same g ofContext e
+      room false e = absurd (done-not-refused e)
+
+      judged : (v : Answer (Unit {0})) → Verdict (poolOf i) [] v → done g ≡ judgedBy v → IsBuilt
+      judged (done u) v e = record { admitted = v; acyclic = exactly-0 (poolOf i) (done u) v .0 refl .1; lists = room (fitsAll o ofContext) e }
+      judged (refused k n) v e = absurd (done-not-refused e)
+
+      go : (b : Bool) → OrMalformed b (done g) ((v : Answer (Unit {0})) × Verdict (poolOf i) [] v × (done g ≡ judgedBy v)) → IsBuilt
+      go true (v, j, e) = judged v j e
+      go false e = absurd (done-not-refused e)
 
 -- the first size that is told
 first-told : (z : List ℕ) (a b c : ℕ) → 0 < length z → getD (set (set (set z 0 a) 1 b) 2 c) 0 0 ≡ a
@@ -163,9 +169,9 @@ demand3-build 𝓐 E qs x l calls s i r same x′ o o′ z z′ h G leaves given
     let g : RawSegment = d .0 in
     let b = built-is i x l o g (subst (λ (a : Answer RawSegment). AnsweredBuild (poolOf i) (length (i .expressions)) x l o a) (d .1) (h .1 .read i r)) in
     let t = subst (λ (a : Answer RawSegment). StandsBuilt (forestRead (reading s)) a x l o x′ o′) (d .1) (h .3) in
-    let y = demand3-session 𝓐 E (subst Acyclic same (b .0)) qs x l (session E calls) (none-asked E calls) G leaves given in
+    let y = demand3-session 𝓐 E (subst Acyclic same (b .acyclic)) qs x l (session E calls) (none-asked E calls) G leaves given in
     let first : g .first ≡ records (y .0)
-    = ap (λ (u : RawSegment). u .first) (b .1) ∙ ap (λ (F : Forest). segmentSaid F (said x l) .first) same ∙ y .1 in
+    = ap (λ (u : RawSegment). u .first) (b .lists) ∙ ap (λ (F : Forest). segmentSaid F (said x l) .first) same ∙ y .1 in
     record {
       steps = y .0;
       list = ap (λ (u : Lists). u .first) (t .1) ∙ rw first;

@@ -6,6 +6,7 @@ pub mod Rows
 pub mod Gives
 pub mod Demand3
 pub mod Evaluated
+pub mod Chain
 pub mod Examples
 pub mod Sample
 pub mod Useless
