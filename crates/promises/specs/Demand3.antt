@@ -137,6 +137,7 @@ module _ (i : Input) (x l : List ℕ) (o : Lists) (g : RawSegment) where
     pub admitted : Verdict (poolOf i) [] (done tt)
     pub acyclic : Acyclic (forest (poolOf i))
     pub lists : g ≡ ofContext
+    pub fits : fitsAll o ofContext ≡ true
 
   -- what the verdict v makes of it
   abbrev judgedBy : Answer (Unit {0}) → Answer RawSegment
@@ -145,12 +146,14 @@ module _ (i : Input) (x l : List ℕ) (o : Lists) (g : RawSegment) where
   pub built-is : AnsweredBuild (poolOf i) (length (i .expressions)) x l o (done g) → IsBuilt
   built-is (b, ex, h) = go b h
     where
-      room : (t : Bool) → done g ≡ cond t (done ofContext) (refused Refusal.full none) → g ≡ ofContext
-      room true e = done-same g ofContext e
+      room : (t : Bool) → done g ≡ cond t (done ofContext) (refused Refusal.full none) → (g ≡ ofContext) × (t ≡ true)
+      room true e = (done-same g ofContext e, refl)
       room false e = absurd (done-not-refused e)
 
       judged : (v : Answer (Unit {0})) → Verdict (poolOf i) [] v → done g ≡ judgedBy v → IsBuilt
-      judged (done u) v e = record { admitted = v; acyclic = exactly-0 (poolOf i) (done u) v .0 refl .1; lists = room (fitsAll o ofContext) e }
+      judged (done u) v e =
+          let r = room (fitsAll o ofContext) e in
+          record { admitted = v; acyclic = exactly-0 (poolOf i) (done u) v .0 refl .1; lists = r .0; fits = r .1 }
       judged (refused k n) v e = absurd (done-not-refused e)
 
       go : (b : Bool) → OrMalformed b (done g) ((v : Answer (Unit {0})) × Verdict (poolOf i) [] v × (done g ≡ judgedBy v)) → IsBuilt
