@@ -2,6 +2,7 @@
 -- Assumes nothing: these are definitions.
 use Prim.Native.Nat.{ℕ}
 use mathlib.Core.List.{List, [], _∷_}
+use lib.ListN.{getD}
 use Rattle.lists.specs.Records.{goodList}
 use Rattle.lent_lists.specs.Records.{goodLists}
 use Rattle.dimensions.specs.Answers.{firstDimX}
@@ -22,3 +23,7 @@ DimensionNumbered s b d first i last first′ i′ last′ n =
 -- of a first list alone
 abbrev pub FirstNumbered : List ℕ → List ℕ → List ℕ → List ℕ → ℕ → Type 0
 FirstNumbered s b first first′ n = WalkNumbered s b (goodList first) (dimensionBy firstDimX (first ∷ []) b) (first ∷ []) (first′ ∷ []) n
+
+-- one of the lists before or after a walk
+abbrev pub nthOf : ℕ → List (List ℕ) → List ℕ
+nthOf k ls = getD ls k []

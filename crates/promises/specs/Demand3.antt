@@ -6,7 +6,7 @@ use Prim.Native.Nat.{ℕ, _<_, _≤_}
 use mathlib.Core.Path.{_≡_, refl, sym, _∙_, ap, subst}
 use mathlib.Core.Bool.{Bool, true, false, cond}
 use mathlib.Core.Option.{none}
-use mathlib.Core.List.{List, [], _∷_, _++_}
+use mathlib.Core.List.{List, [], _++_}
 use native.Mathlib.Omega.{arith}
 use lib.ListN.{length, getD, set}
 use lib.Seq.{getD-set-same, getD-set-other}
@@ -34,18 +34,16 @@ use Rattle.requests.specs.Runs.{requestsOf, BytesRun}
 use Rattle.requests.specs.Serving.{plain-requests}
 use Rattle.requests.specs.Demand3.{demand3-read}
 use Rattle.builds.specs.Raw.{RawSegment}
-use Rattle.context.specs.Context.{contextSize, Good, Exactly}
+use Rattle.context.specs.Context.{contextSize}
 use Rattle.context.specs.Tables.{freshBytes}
 use Rattle.codegen.specs.Said.{Said, said, segmentSaid}
 use Rattle.codegen.specs.Written.{Stands}
 use Rattle.codegen.specs.Serving.{OrMalformed, Serves}
-use Rattle.codegen.specs.Building.{Lists, fitsAll, AnsweredBuild, Builds, StandsBuilt, listsWith, sizes, forestRead}
+use Rattle.codegen.specs.Building.{Lists, fitsAll, AnsweredBuild, StandsBuilt, sizes, forestRead}
 use Rattle.codegen.specs.Sessions.{Session, demand3-session}
-use Rattle.plan_walks.specs.Walks.{Walked, goodSegment, listsAfter, walkSays}
-use Rattle.plan_walks.specs.Fix.{isN, fixBy, FixIs}
-use Rattle.plan_walks.specs.declared.walk.Walk.{Walk}
+use Rattle.plan_walks.specs.Walks.{Walked}
+use Rattle.plan_walks.specs.Fix.{isN, FixIs}
 use Rattle.plan_walks.specs.declared.walk.Walk.the-variants as walk
-use Rattle.planning.specs.Planning.{Goes}
 use Rattle.plan_demand3.specs.Conditions.{IntermediatesDiffer, NoLeafReadsIntermediate, planFor}
 use Rattle.plan_demand3.specs.Demand3Plan.{PlanComputes, demand3-plan}
 use Rattle.host.specs.Numbered.{FreshNumbered, ServeNumbered, BuildNumbered, wanted, sizesTold, cellsTold}
@@ -102,7 +100,7 @@ Demand3Fix 𝓐 =
 
 -- ── the proofs ───────────────────────────────────────────────────────────────
 -- a number 0 is that of an answer that is done
-is-done : {A : Type 0} (a : Answer A) → 0 ≡ answerNo a → (x : A) × (a ≡ done x)
+pub is-done : {A : Type 0} (a : Answer A) → 0 ≡ answerNo a → (x : A) × (a ≡ done x)
 is-done (done x) e = (x, refl)
 is-done (refused k o) e = absurd (number-not-zero k (sym e))
 
@@ -113,7 +111,7 @@ demand3-run 𝓐 s l l′ z z′ h =
     record { input = c .0; read = c .1; steps = d .0 .first; list = h .3 ∙ ap (listAfter l) (d .1); computes = c .2 }
 
 -- calls are a session
-session : (E : Forest) {qs : List Request} {x l : List ℕ} → Calls E qs x l → Session E qs x l
+pub session : (E : Forest) {qs : List Request} {x l : List ℕ} → Calls E qs x l → Session E qs x l
 session E (Calls.fresh x x′ l h) = go (eqb (length x) contextSize) (h .number) (h .bytes)
   where
     go : (b : Bool) → _≡_ {A = ℕ} 0 (cond b 0 1) → x′ ≡ cond b (freshBytes contextSize) x → Session E [] x′ l
@@ -131,27 +129,36 @@ none-asked E (Calls.fresh x x′ l h) = tt
 none-asked E (Calls.serve qs x l c s i r same x′ l′ h) = each-join NoResult qs (requestsOf i) (none-asked E c) (plain-requests (i .requests))
 
 -- a build that is done is that of an admitted pool, and its lists are the context's
-built-is :
-    (i : Input) (x l : List ℕ) (o : Lists) (g : RawSegment) → AnsweredBuild (poolOf i) (length (i .expressions)) x l o (done g) →
-    Acyclic (forest (poolOf i)) × (g ≡ segmentSaid (forest (poolOf i)) (said x l))
-built-is i x l o g (b, ex, h) = go b h
-  where
-    room : (t : Bool) → done g ≡ cond t (done (segmentSaid (forest (poolOf i)) (said x l))) (refused Refusal.full none) → g ≡ (segmentSaid (forest (poolOf i)) (said x l))
-    room true e = done-same g (segmentSaid (forest (poolOf i)) (said x l)) e
-    room false e = absurd (done-not-refused e)
+module _ (i : Input) (x l : List ℕ) (o : Lists) (g : RawSegment) where
+  abbrev ofContext : RawSegment
+  ofContext = segmentSaid (forest (poolOf i)) (said x l)
 
-    judged :
-        (v : Answer (Unit {0})) → Verdict (poolOf i) [] v → done g ≡ (v then λ _. cond (fitsAll o (segmentSaid (forest (poolOf i)) (said x l))) (done (segmentSaid (forest (poolOf i)) (said x l))) (refused Refusal.full none)) →
-        Acyclic (forest (poolOf i)) × (g ≡ (segmentSaid (forest (poolOf i)) (said x l)))
-    judged (done u) v e = (exactly-0 (poolOf i) (done u) v .0 refl .1, room (fitsAll o (segmentSaid (forest (poolOf i)) (said x l))) e)
-    judged (refused k n) v e = absurd (done-not-refused e)
+  pub record IsBuilt : Type 0 where
+    pub admitted : Verdict (poolOf i) [] (done tt)
+    pub acyclic : Acyclic (forest (poolOf i))
+    pub lists : g ≡ ofContext
+    pub fits : fitsAll o ofContext ≡ true
 
-    go :
-        (b : Bool) →
-        OrMalformed b (done g) ((v : Answer (Unit {0})) × Verdict (poolOf i) [] v × (done g ≡ (v then λ _. cond (fitsAll o (segmentSaid (forest (poolOf i)) (said x l))) (done (segmentSaid (forest (poolOf i)) (said x l))) (refused Refusal.full none)))) →
-        Acyclic (forest (poolOf i)) × (g ≡ (segmentSaid (forest (poolOf i)) (said x l)))
-    go true (v, j, e) = judged v j e
-    go false e = absurd (done-not-refused e)
+  -- what the verdict v makes of it
+  abbrev judgedBy : Answer (Unit {0}) → Answer RawSegment
+  judgedBy v = v then λ _. cond (fitsAll o ofContext) (done ofContext) (refused Refusal.full none)
+
+  pub built-is : AnsweredBuild (poolOf i) (length (i .expressions)) x l o (done g) → IsBuilt
+  built-is (b, ex, h) = go b h
+    where
+      room : (t : Bool) → done g ≡ cond t (done ofContext) (refused Refusal.full none) → (g ≡ ofContext) × (t ≡ true)
+      room true e = (done-same g ofContext e, refl)
+      room false e = absurd (done-not-refused e)
+
+      judged : (v : Answer (Unit {0})) → Verdict (poolOf i) [] v → done g ≡ judgedBy v → IsBuilt
+      judged (done u) v e =
+          let r = room (fitsAll o ofContext) e in
+          record { admitted = v; acyclic = exactly-0 (poolOf i) (done u) v .0 refl .1; lists = r .0; fits = r .1 }
+      judged (refused k n) v e = absurd (done-not-refused e)
+
+      go : (b : Bool) → OrMalformed b (done g) ((v : Answer (Unit {0})) × Verdict (poolOf i) [] v × (done g ≡ judgedBy v)) → IsBuilt
+      go true (v, j, e) = judged v j e
+      go false e = absurd (done-not-refused e)
 
 -- the first size that is told
 first-told : (z : List ℕ) (a b c : ℕ) → 0 < length z → getD (set (set (set z 0 a) 1 b) 2 c) 0 0 ≡ a
@@ -165,9 +172,9 @@ demand3-build 𝓐 E qs x l calls s i r same x′ o o′ z z′ h G leaves given
     let g : RawSegment = d .0 in
     let b = built-is i x l o g (subst (λ (a : Answer RawSegment). AnsweredBuild (poolOf i) (length (i .expressions)) x l o a) (d .1) (h .1 .read i r)) in
     let t = subst (λ (a : Answer RawSegment). StandsBuilt (forestRead (reading s)) a x l o x′ o′) (d .1) (h .3) in
-    let y = demand3-session 𝓐 E (subst Acyclic same (b .0)) qs x l (session E calls) (none-asked E calls) G leaves given in
+    let y = demand3-session 𝓐 E (subst Acyclic same (b .acyclic)) qs x l (session E calls) (none-asked E calls) G leaves given in
     let first : g .first ≡ records (y .0)
-    = ap (λ (u : RawSegment). u .first) (b .1) ∙ ap (λ (F : Forest). segmentSaid F (said x l) .first) same ∙ y .1 in
+    = ap (λ (u : RawSegment). u .first) (b .lists) ∙ ap (λ (F : Forest). segmentSaid F (said x l) .first) same ∙ y .1 in
     record {
       steps = y .0;
       list = ap (λ (u : Lists). u .first) (t .1) ∙ rw first;
@@ -178,17 +185,21 @@ demand3-build 𝓐 E qs x l calls s i r same x′ o o′ z z′ h G leaves given
       computes = y .2;
     }
 
+-- a call of enonkasse_fix that is answered with 0 is one of `fix` that is done, with the counter that it tells
+pub fix-call :
+    (s b : List ℕ) (domain : ℕ) (z z′ first i last first′ i′ last′ : List ℕ) (counter : ℕ) → getD z 0 0 ≡ counter → WalkCounted s b domain z z′ first i last first′ i′ last′ 0 →
+    (n : ℕ) × FixIs s b domain counter first i last first′ i′ last′ (walk.Done n) × (z′ ≡ set z 0 n)
+fix-call s b domain z z′ first i last first′ i′ last′ counter counted h =
+    let d = is-done (h .0) (h .2) in
+    let n : ℕ = d .0 .counter in
+    let is : FixIs s b domain (getD z 0 0) first i last first′ i′ last′ (walk.Done n)
+    = record { answer = h .0; goes = h .1; does = record { says = sym (ap (λ (a : Answer Walked). a then λ u. done (u .counter)) (d .1)); lists = h .3 } } in
+    (n, subst (λ c. FixIs s b domain c first i last first′ i′ last′ (walk.Done n)) counted is, h .4 ∙ ap (λ (a : Answer Walked). cellsTold (a then λ u. done (u .counter)) z) (d .1))
+
 pub demand3-fix : (𝓐 : Algebra) → Demand3Fix 𝓐
 demand3-fix 𝓐 s room g run i r b bytes differ alone domain z z′ first′ i′ last′ counted h G fed =
-    let d = is-done (h .0) (h .2) in
-    let w : Walked = d .0 in
-    let is : FixIs s b domain (getD z 0 0) (encoded (g .first)) (encoded (g .i)) (encoded (g .last)) first′ i′ last′ (walk.Done (w .counter))
-    = record { answer = h .0; goes = h .1; does = record { says = sym (ap (λ (a : Answer Walked). a then λ u. done (u .counter)) (d .1)); lists = h .3 } } in
-    let call = subst (λ c. FixIs s b domain c (encoded (g .first)) (encoded (g .i)) (encoded (g .last)) first′ i′ last′ (walk.Done (w .counter))) counted is in (
-      w .counter,
-      h .4 ∙ ap (λ (a : Answer Walked). cellsTold (a then λ u. done (u .counter)) z) (d .1),
-      demand3-plan 𝓐 s room g run i r b bytes differ alone domain first′ i′ last′ (walk.Done (w .counter)) call (w .counter) refl G fed,
-    )
+    let c = fix-call s b domain z z′ (encoded (g .first)) (encoded (g .i)) (encoded (g .last)) first′ i′ last′ (g .counter) counted h in
+    (c .0, c .2, demand3-plan 𝓐 s room g run i r b bytes differ alone domain first′ i′ last′ (walk.Done (c .0)) (c .1) (c .0) refl G fed)
 
 -- ── over the integers, and modulo every number from 2 up ─────────────────────
 pub demand3-run-integers : Demand3Run integers

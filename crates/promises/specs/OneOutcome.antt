@@ -2,11 +2,11 @@
 -- Two are stated of what a slice holds, since a contract speaks of numbers: the list after `serve` of bytes, the set after `search` of 64-bit words. Nothing is left open.
 -- Assumes nothing.
 use Prim.Native.Nat.{ℕ, _^_, _<_}
-use mathlib.Core.Path.{_≡_, refl, sym, _∙_, ap, subst}
+use mathlib.Core.Path.{_≡_, sym, _∙_, ap, subst}
 use mathlib.Core.Bool.{Bool, true}
 use mathlib.Core.List.{List, [], _∷_}
 use lib.ListN.{length, getD}
-use Rattle.meaning.specs.Refusals.{Refusal, Answer, done, refused, answerNo, _then_}
+use Rattle.meaning.specs.Refusals.{Answer, done, refused, answerNo, _then_}
 use Rattle.meaning.specs.Building.{Segment}
 use Rattle.frames.specs.Reading.{reading}
 use Rattle.frames.specs.Taking.{Bytes}
@@ -38,8 +38,8 @@ use Rattle.host.specs.Runs.{RunNumbered, totalsTold}
 use Rattle.host.specs.Maps.{MapNumbered}
 use Rattle.host.specs.Plans.{WalkNumbered, WalkCounted}
 use Rattle.host.specs.Searches.{SearchNumbered, setIs, choiceTold}
-use Rattle.promises.specs.Contracts.{QueryNumbered, DimensionNumbered, FirstNumbered}
-use Rattle.promises.specs.Bytes.{one-list}
+use Rattle.promises.specs.Contracts.{QueryNumbered, DimensionNumbered, FirstNumbered, nthOf}
+use Rattle.answers.specs.ListBytes.{one-list}
 
 -- ── generation ───────────────────────────────────────────────────────────────
 -- enonkasse_fresh: the number and the context
@@ -103,10 +103,6 @@ one-walk :
 one-walk s b own what ls g h =
     let e = one-gone b own what (reading s) (g .0) (h .0) (g .1) (h .1) in
     (g .2 ∙ ap answerNo e ∙ sym (h .2), g .3 ∙ ap (listsAfter ls) e ∙ sym (h .3))
-
--- lists are the same one by one
-abbrev nthOf : ℕ → List (List ℕ) → List ℕ
-nthOf k ls = getD ls k []
 
 -- enonkasse_fix: the number, the counter, and the three lists
 pub one-fix :

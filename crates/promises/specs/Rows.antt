@@ -18,9 +18,8 @@
 use Prim.Native.Nat.{ℕ}
 use mathlib.Core.Path.{_≡_, refl, sym, _∙_}
 use mathlib.Core.Bool.{Bool, true, false, cond}
-use mathlib.Core.List.{List, [], _∷_}
+use mathlib.Core.List.{List}
 use mathlib.Core.Logic.{_↔_}
-use native.Mathlib.Omega.{arith}
 use lib.ListN.{length, getD}
 use lib.Dec.{eqb}
 use borrow.Author.Tests.{eqb-true, eqb-false, eq-eqb, ne-eqb}
@@ -37,9 +36,9 @@ use Rattle.host.specs.Maps.{MapNumbered}
 use Rattle.host.specs.Plans.{WalkCounted}
 use Rattle.host.specs.Searches.{SearchNumbered}
 use Rattle.promises.specs.Contracts.{QueryNumbered, DimensionNumbered, FirstNumbered}
-use Rattle.promises.specs.Ways.{FreshWay, ServeWay, BuildWay, RunWay, EvaluateWay, MapWay, FixWay, QueryWay, DimensionWay, FirstWay, SearchWay, SectionWay}
-use Rattle.promises.specs.Exact.{of-serve, of-build, of-run, of-evaluate, of-search}
-use Rattle.promises.specs.ExactPlans.{of-map, of-fix, of-query, of-dimension, of-dimension-first, of-section}
+use Rattle.answers.specs.Ways.{FreshWay, ServeWay, BuildWay, RunWay, EvaluateWay, MapWay, FixWay, QueryWay, DimensionWay, FirstWay, SearchWay, SectionWay}
+use Rattle.answers.specs.Exact.{of-serve, of-build, of-run, of-evaluate, of-search}
+use Rattle.answers.specs.ExactPlans.{of-map, of-fix, of-query, of-dimension, of-dimension-first, of-section}
 
 -- ── the statement ────────────────────────────────────────────────────────────
 -- A CALL that is answered with n: the function, what it takes, and that its contract holds of what stands after it
@@ -112,3 +111,14 @@ rows (Call.dimension s b d first i last first′ i′ last′ h) k = told (h .0)
 rows (Call.dimensionFirst s b first first′ h) k = told (h .0) (h .2) (of-dimension-first s b firstDimX first (h .0) (h .1) k)
 rows (Call.search vc s es b e limit w w′ z z′ h) k = told (h vc .0) (h vc .2) (of-search s es vc b e limit (h vc .0) (h vc .1) k)
 rows (Call.mapSection rs rs′ ss ss′ ds ds′ ps ps′ ws ws′ h) k = told (recordsMapping rs (length ss) (length ds) (length ps) (length ws)) (h .says) (of-section rs (length ss) (length ds) (length ps) (length ws) k)
+
+-- EVERY CALL HAS A ROW, and no call has two
+pub some-row : {n : ℕ} (c : Call n) → (k : ℕ) × Holds c k
+some-row {n} c = (n, rows c n .0 refl)
+
+pub one-row : {n : ℕ} (c : Call n) (j k : ℕ) → Holds c j → Holds c k → j ≡ k
+one-row c j k a b = sym (rows c j .1 a) ∙ rows c k .1 b
+
+-- DEMAND 2'S DOMAIN, where the answer is to be the Rust's: the calls of which row 0 holds, and no others
+pub accepted : {n : ℕ} (c : Call n) → (n ≡ 0) ↔ Holds c 0
+accepted c = rows c 0

@@ -2,8 +2,8 @@
 -- Assumes nothing.
 use Prim.Native.Nat.{ℕ, zero, suc, _*_, _<_, _≤_}
 use mathlib.Core.Path.{_≡_, refl, sym, _∙_, ap, subst}
-use mathlib.Core.Bool.{false, true, cond, _&&_}
-use mathlib.Core.Option.{none, some, Option·none-ne-some, Option·some-injective}
+use mathlib.Core.Bool.{false}
+use mathlib.Core.Option.{some, Option·none-ne-some, Option·some-injective}
 use mathlib.Core.List.{List, [], _∷_}
 use native.Mathlib.Omega.{arith}
 use lib.ListN.{length, set}
@@ -15,7 +15,7 @@ use Rattle.kinds.specs.BigEndian.{u16At}
 use Rattle.kinds.specs.Literals.{isMinusZero, fitsI64, isAllowed}
 use Rattle.kinds.specs.Write.{write}
 use Rattle.kinds.specs.Steps.{stepSize}
-use Rattle.meaning.specs.Refusals.{Refusal, Answer, done, refused, answerNo, _then_}
+use Rattle.meaning.specs.Refusals.{Answer, done, refused, answerNo, _then_}
 use Rattle.meaning.specs.Trees.{RowKind, Op, Leaf, Expr, Expression, Forest, Acyclic, nth, Each, leaves, Falls}
 use Rattle.meaning.specs.Steps.{Kind, Cell, Ref, StepOp, Step, step, tmpRef, expCell}
 use Rattle.meaning.specs.Building.{Segment, whole}

@@ -1,13 +1,13 @@
 -- DEMAND 1: every call is answered with 0 or with one of document 01's seventeen numbers; and a number other than 0 means that every lent buffer is what it was.
 -- Assumes nothing.
 use Prim.Native.Nat.{ℕ, _≤_}
-use mathlib.Core.Path.{_≡_, refl, sym, _∙_, ap, subst}
+use mathlib.Core.Path.{_≡_, refl, _∙_, ap, subst}
 use mathlib.Core.Bool.{Bool, true, false, cond}
 use mathlib.Core.Option.{Option}
 use mathlib.Core.List.{List, [], _∷_}
 use mathlib.Core.Logic.{_⊎_, inl, inr}
 use native.Mathlib.Omega.{arith}
-use lib.ListN.{length, getD}
+use lib.ListN.{length}
 use lib.Dec.{eqb}
 use Rattle.meaning.specs.Refusals.{Refusal, number, Answer, done, refused, answerNo, _then_}
 use Rattle.meaning.specs.Building.{Segment}
@@ -25,7 +25,6 @@ use Rattle.planning.specs.Planning.{Planned}
 use Rattle.plan_map.specs.Whole as map
 use Rattle.plan_walks.specs.Walks.{Walked, listsAfter}
 use Rattle.search_meaning.specs.Search.{Choice}
-use Rattle.sections.specs.Sections.{Mapping}
 use Rattle.sections.specs.Answer.{positionsAfter, widthsAfter}
 use Rattle.degree_search.specs.Choosing.{SetAfter}
 use Rattle.records.specs.Records.{RecordsMapped, recordsMapping, recordsAfter, columnAfter, sectionsOf, dimsOf}
@@ -35,7 +34,7 @@ use Rattle.host.specs.Runs.{RunNumbered, totalsTold}
 use Rattle.host.specs.Maps.{MapNumbered}
 use Rattle.host.specs.Plans.{WalkNumbered, WalkCounted}
 use Rattle.host.specs.Searches.{SearchNumbered, choiceTold}
-use Rattle.promises.specs.Contracts.{QueryNumbered, DimensionNumbered, FirstNumbered}
+use Rattle.promises.specs.Contracts.{QueryNumbered, DimensionNumbered, FirstNumbered, nthOf}
 
 -- 0, or the number of a refusal
 abbrev pub Answered : ℕ → Type 0
@@ -156,9 +155,6 @@ unchanged-walk :
     (s b : List ℕ) (own : Bool) (what : Planned → Answer Walked) (ls : List (List ℕ)) {ls′ : List (List ℕ)} {n : ℕ} →
     WalkNumbered s b own what ls ls′ n → (n ≡ 0 → ⊥) → ls′ ≡ ls
 unchanged-walk s b own what ls h y = let r = is-refused (h .0) (h .2) y in h .3 ∙ ap (listsAfter ls) (r .2)
-
-abbrev nthOf : ℕ → List (List ℕ) → List ℕ
-nthOf k ls = getD ls k []
 
 module _ (s b : List ℕ) (domain : ℕ) (z first i last : List ℕ) {z′ first′ i′ last′ : List ℕ} {n : ℕ} (h : WalkCounted s b domain z z′ first i last first′ i′ last′ n) where
   -- enonkasse_fix

@@ -2,21 +2,21 @@
 -- after the first request, and one that invents visits.
 -- Assumes nothing.
 use Prim.Native.Nat.{ℕ, _*_, _<_, _≤_}
-use mathlib.Core.Path.{_≡_, refl, sym, _∙_, ap, subst}
-use mathlib.Core.Option.{Option, some, Option·none-ne-some, Option·some-injective}
+use mathlib.Core.Path.{_≡_, sym, _∙_, ap}
+use mathlib.Core.Option.{some, Option·none-ne-some, Option·some-injective}
 use mathlib.Core.List.{List, [], _∷_}
 use native.Mathlib.Omega.{arith}
 use lib.ListN.{length, getD, set, length-set}
 use lib.Seq.{getD-set-same, getD-set-other}
 use Rattle.kinds.specs.Steps.{stepSize}
-use Rattle.meaning.specs.Refusals.{Refusal, Answer, done, refused, answerNo, _then_}
+use Rattle.meaning.specs.Refusals.{Answer, done, refused, answerNo, _then_}
 use Rattle.meaning.specs.Trees.{Forest, Each, Member}
 use Rattle.meaning.specs.Values.{Algebra, Given, value}
-use Rattle.meaning.specs.Steps.{Cell, Step, expCell}
+use Rattle.meaning.specs.Steps.{Step, expCell}
 use Rattle.meaning.specs.Running.{Store, empty}
 use Rattle.meaning.specs.Generation.{Request}
 use Rattle.meaning.specs.Demand3.{HeldFor, Computes}
-use Rattle.meaning.specs.Laws.Tests.{done-same, number-not-zero, then-done, each-map}
+use Rattle.meaning.specs.Laws.Tests.{number-not-zero, then-done, each-map}
 use Rattle.frames.specs.Order.{Input}
 use Rattle.frames.specs.Reading.{reading}
 use Rattle.pool.specs.Trees.{forest}
@@ -25,11 +25,11 @@ use Rattle.evaluator_run.specs.Evaluation.{writtenAfter, written}
 use Rattle.evaluator.specs.Laws.Written.{run-covers}
 use Rattle.search_meaning.specs.Search.{Choice, search}
 use Rattle.sets.specs.Members.{members}
-use Rattle.degree_search.specs.Searching.{asking, Runs, searched}
+use Rattle.degree_search.specs.Searching.{asking, searched}
 use Rattle.host.specs.Runs.{RunNumbered}
 use Rattle.host.specs.Searches.{SearchNumbered, setIs, choiceTold}
 use Rattle.promises.specs.Rows.{Call, Holds, rows}
-use Rattle.promises.specs.Sample.{frames, fusedSteps, plainSteps, Answers, first-run, second-run}
+use Rattle.promises.specs.Sample.{frames, first-run, second-run}
 
 -- ── refusing everything ──────────────────────────────────────────────────────
 -- wherever row 0 holds of a call, whatever the function, its number is 0

@@ -1,16 +1,16 @@
--- EACH NUMBER EXACTLY WHEN one of its ways is open, for each part of a call: frames, a pool, and what each exported function does after them. `Rows.antt` has the statement.
+-- EACH NUMBER EXACTLY WHEN one of its ways is open, for each part of a call: frames, a pool, and what each exported function does after them.
 -- Assumes nothing.
 use Prim.Native.Nat.{ℕ, _*_}
 use mathlib.Core.Path.{_≡_, refl, sym, _∙_, ap, subst}
 use mathlib.Core.Bool.{Bool, true, false, cond, _&&_}
 use mathlib.Core.Option.{Option, none}
-use mathlib.Core.List.{List, [], _∷_}
+use mathlib.Core.List.{List, []}
 use mathlib.Core.Logic.{_⊎_, inl, inr, _↔_}
 use native.Mathlib.Omega.{arith}
 use lib.ListN.{length}
 use lib.Dec.{leb, ltb}
 use borrow.Author.Tests.{leb-true, leb-false, le-leb, ltb-true, ltb-false, lt-ltb}
-use Rattle.meaning.specs.Refusals.{Refusal, number, Answer, done, refused, _then_, answerNo}
+use Rattle.meaning.specs.Refusals.{Refusal, Answer, done, refused, _then_, answerNo}
 use Rattle.meaning.specs.Trees.{Forest, Acyclic}
 use Rattle.meaning.specs.Running.{empty}
 use Rattle.meaning.specs.Generation.{Request, start, serveAll}
@@ -52,8 +52,8 @@ use Rattle.evaluator.specs.Exactly as evaluates
 use Rattle.search_meaning.specs.Search.{Choice}
 use Rattle.search_meaning.specs.SearchCases as search
 use Rattle.degree_search.specs.Searching.{asking, searched, Runs}
-use Rattle.promises.specs.Ways as way
-use Rattle.promises.specs.Ways.{OfFrames, OfPool, askedFor}
+use Rattle.answers.specs.Ways as way
+use Rattle.answers.specs.Ways.{OfFrames, OfPool, askedFor}
 
 -- a number has its way, and each way its number
 pub both : {n : ℕ} (W : ℕ → Type 0) → W n → ((k : ℕ) → W k → n ≡ k) → (k : ℕ) → (n ≡ k) ↔ W k

@@ -1,6 +1,6 @@
--- EACH NUMBER EXACTLY WHEN one of its ways is open, of the exported functions that go by a plan, and of the mapping of records. `Rows.antt` has the statement.
+-- EACH NUMBER EXACTLY WHEN one of its ways is open, of the exported functions that go by a plan, and of the mapping of records.
 -- Assumes nothing.
-use Prim.Native.Nat.{ℕ, _<_, _≤_}
+use Prim.Native.Nat.{ℕ}
 use mathlib.Core.Path.{_≡_, refl, sym, _∙_, ap, subst}
 use mathlib.Core.Bool.{Bool, true, false, cond, _&&_}
 use mathlib.Core.List.{List, [], _∷_}
@@ -9,7 +9,7 @@ use native.Mathlib.Omega.{arith}
 use lib.ListN.{length}
 use lib.Dec.{eqb, leb}
 use borrow.Author.Tests.{leb-true, leb-false}
-use Rattle.meaning.specs.Refusals.{Refusal, number, Answer, done, refused, _then_, answerNo}
+use Rattle.meaning.specs.Refusals.{number, Answer, done, refused, _then_, answerNo}
 use Rattle.meaning.specs.Laws.Tests.{number-not-zero, and-right}
 use Rattle.kinds.specs.KindBytes as kind
 use Rattle.kinds.specs.declared.reference.Reference.{Reference}
@@ -50,14 +50,14 @@ use Rattle.plan_walks.specs.Walks.{Walked, goodSegment, lastDomain}
 use Rattle.plan_walks.specs.Fix.{isN, rulesIn, fixWith, fixBy}
 use Rattle.plan_walks.specs.Cms.{cmsOf}
 use Rattle.plan_walks.specs.Query.{queryWith, queryBy}
-use Rattle.plan_walks.specs.Dimension.{givenBy, unblamed, dimensionWith, dimensionBy}
+use Rattle.plan_walks.specs.Dimension.{givenBy, unblamed, dimensionBy}
 use Rattle.sections.specs.Sections as sections
 use Rattle.records.specs.Records.{recordsMapping}
 use Rattle.records.specs.Exactly as records
 use Rattle.records.specs.declared.PolType.{PolType}
-use Rattle.promises.specs.Ways as way
-use Rattle.promises.specs.Ways.{OfPlan}
-use Rattle.promises.specs.Exact.{both}
+use Rattle.answers.specs.Ways as way
+use Rattle.answers.specs.Ways.{OfPlan}
+use Rattle.answers.specs.Exact.{both}
 
 -- ── a plan ───────────────────────────────────────────────────────────────────
 -- where there is a plan, what else the function takes is well formed

@@ -1,14 +1,14 @@
 -- THE ROWS OF THE REFUSAL TABLE, for each exported function: the ways in which a call comes to a number, in the order of its checks, each with what must not have been refused before it.
--- The first argument of a way is the number's condition; `Rows.antt` proves that a call has a number exactly when one of that number's ways is open.
+-- The first argument of a way is the number's condition; `Exact.antt` and `ExactPlans.antt` prove that a call has a number exactly when one of that number's ways is open.
 -- Assumes nothing: these are definitions.
 use Prim.Native.Nat.{ℕ, _*_, _<_, _≤_}
 use mathlib.Core.Path.{_≡_}
 use mathlib.Core.Bool.{Bool, true, false, _&&_}
 use mathlib.Core.List.{List, [], _∷_}
 use mathlib.Core.Logic.{_⊎_}
-use lib.ListN.{length, getD}
+use lib.ListN.{length}
 use lib.Dec.{eqb}
-use Rattle.meaning.specs.Refusals.{Refusal, number, Answer, done}
+use Rattle.meaning.specs.Refusals.{Refusal, number, done}
 use Rattle.meaning.specs.Trees.{Forest, Acyclic}
 use Rattle.meaning.specs.Running.{empty}
 use Rattle.meaning.specs.Generation.{Request}
@@ -52,7 +52,7 @@ use Rattle.fixing.specs.Conditions as fixing
 use Rattle.query_fixing.specs.QueryConditions as query
 use Rattle.plans.specs.Agreement.{cmCount}
 use Rattle.plan_exactly.specs.Query.{NoCm}
-use Rattle.step_dimensions.specs.StepDimensions.{Given, unwritten}
+use Rattle.step_dimensions.specs.StepDimensions.{unwritten}
 use Rattle.dimensions.specs.Answers.{firstDimX}
 use Rattle.dimensions.specs.Conditions.{StepsRefused, allRecords}
 use Rattle.search_meaning.specs.SearchCases.{Row}
