@@ -1,6 +1,5 @@
 //! Processor time of this thread: what others do on the machine does not count.
 
-use std::hint::black_box;
 use std::time::Duration;
 
 /// As Linux numbers it.
@@ -23,10 +22,11 @@ fn processor_time() -> Duration {
     Duration::new(time.seconds as u64, time.nanoseconds as u32)
 }
 
-/// What is measured and nothing else: a profiler may look at this function alone.
+/// What is measured and nothing else: a profiler may look at this function alone. It is a call of its own, so that what it
+/// gives is made though it is only dropped.
 #[inline(never)]
 fn measured<T>(work: impl FnOnce() -> T) -> T {
-    black_box(work())
+    work()
 }
 
 /// The time that work takes, without that of dropping what it gives.

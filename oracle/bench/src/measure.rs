@@ -74,6 +74,15 @@ pub fn shown(time: Duration) -> String {
     }
 }
 
+/// A ratio with as many digits as tell something.
+fn ratio_shown(ratio: f64) -> String {
+    match ratio {
+        r if r >= 100.0 => format!("{:.0}", r),
+        r if r >= 0.1 => format!("{:.1}", r),
+        r => format!("{:.3}", r),
+    }
+}
+
 /// Prints a row for each case, measured as it comes.
 pub fn print(cases: &[Case]) {
     println!("| What | Original | Port | Times as fast | Aim | Per unit, original | port |");
@@ -84,11 +93,11 @@ pub fn print(cases: &[Case]) {
         let (count, unit) = pair.units;
         let per = |time: Duration| 1e9 * time.as_secs_f64() / count as f64;
         println!(
-            "| {} | {} | {} | {:.1} | {} | {:.1} ns a {} | {:.1} ns |",
+            "| {} | {} | {} | {} | {} | {:.1} ns a {} | {:.1} ns |",
             pair.title,
             shown(medians.original),
             shown(medians.port),
-            medians.ratio(),
+            ratio_shown(medians.ratio()),
             pair.aim.map_or(String::new(), |aim| aim.to_string()),
             per(medians.original),
             unit,
@@ -112,6 +121,7 @@ mod tests {
         assert_eq!(shown(Duration::from_millis(2320)), "2.32 s");
         assert_eq!(shown(Duration::from_micros(6090)), "6.09 ms");
         assert_eq!(shown(Duration::from_nanos(877_400)), "877.4 us");
+        assert_eq!([2961.2, 7.8, 0.0052].map(ratio_shown), ["2961", "7.8", "0.005"]);
     }
 
     #[test]

@@ -136,10 +136,12 @@ impl Large {
         (bytes / enonkasse_sys::STEP_SIZE) as u64
     }
 
-    /// The original's `map` with the segment, and without.
-    fn original_times(&self) -> [Duration; 2] {
-        let program = Program { step3: original_segment(&self.pool), ..Program::default() };
-        [program, Program::default()].map(|program| map_time(&self.pool, &self.plan, program))
+    fn original_map(&self, program: Program) -> Duration {
+        map_time(&self.pool, &self.plan, program)
+    }
+
+    fn program(&self) -> Program {
+        Program { step3: original_segment(&self.pool), ..Program::default() }
     }
 
     fn pair(self, title: &str, [port, original]: [Time; 2]) -> Pair {
@@ -182,12 +184,12 @@ fn port_all(large: &mut Large) -> Duration {
 }
 
 fn original_all(large: &mut Large) -> Duration {
-    large.original_times()[0]
+    large.original_map(large.program())
 }
 
+/// The original's walks are reached through its `map`: the time with the segment, less that without.
 fn original_walks(large: &mut Large) -> Duration {
-    let [with, without] = large.original_times();
-    with.saturating_sub(without)
+    original_all(large).saturating_sub(large.original_map(Program::default()))
 }
 
 /// Fixing and dimensions of the segment of a pool of so many nodes.
