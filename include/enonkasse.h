@@ -3,9 +3,10 @@
  *
  * Every function answers 0, or the number of a refusal (ENONKASSE_REFUSED_..), and then nothing lent has changed. None
  * keeps anything between calls, allocates, or asks anything of the bytes that it is lent: whatever they are, the answer is
- * the one that document 01 defines, and nothing outside of what is lent is touched. What is asked of the caller: a pointer is not
- * null, also where its size is 0; it points to as many items as its size says, or as its array has; what a call may write
- * overlaps nothing else that it is lent. A call needs up to 1.5 MiB of stack.
+ * the one that document 01 defines, and nothing outside of what is lent is touched. They may be called from several threads at
+ * once. What is asked of the caller: a pointer is not null, also where its size is 0, and is aligned for its type; it points to as
+ * many items as its size says, or as its array has; what a call may write overlaps nothing else that it is lent. A call needs up
+ * to 1.5 MiB of stack.
  *
  * A size counts items: bytes of a uint8_t pointer, words of a uint64_t pointer. Numbers of more than one byte in a record
  * of bytes are big-endian; what crosses as uint64_t, size_t, uint32_t or uint16_t is the machine's own.

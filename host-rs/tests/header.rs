@@ -35,7 +35,10 @@ fn defined() -> BTreeMap<String, usize> {
 
 /// `NoPrimedMark` as NO_PRIMED_MARK.
 fn in_capitals(variant: &impl Debug) -> String {
-    let name = format!("{:?}", variant);
+    with_joints(&format!("{:?}", variant))
+}
+
+fn with_joints(name: &str) -> String {
     let letters = name.chars().enumerate().map(|(place, letter)| {
         let joint = if place > 0 && letter.is_uppercase() { "_" } else { "" };
         format!("{}{}", joint, letter.to_ascii_uppercase())
@@ -80,28 +83,32 @@ fn refusals_have_the_crates_words() {
     }
 }
 
+/// The type of an item: a number, or a struct of `enonkasse_sys`.
+fn item_in_c(kind: &str) -> String {
+    match (kind, kind.strip_prefix('u')) {
+        ("usize", _) => "size_t".to_string(),
+        (_, Some(bits)) => format!("uint{}_t", bits),
+        (name, None) => format!("struct enonkasse_{}", with_joints(name).to_lowercase()),
+    }
+}
+
 /// A parameter of `EXPORTS`, without spaces, as the header has it.
 fn in_c(parameter: &str) -> String {
     let (name, kind) = parameter.split_once(':').expect("a name and a type");
-    let number = |kind: &str| match kind {
-        "usize" => "size_t".to_string(),
-        "PolType" => "struct enonkasse_pol_type".to_string(),
-        kind => format!("uint{}_t", kind.strip_prefix('u').expect("a number without a sign")),
-    };
     let (constant, kind) = match (kind.strip_prefix("&mut["), kind.strip_prefix("&[")) {
         (Some(items), _) => ("", items),
         (None, Some(items)) => ("const ", items),
-        (None, None) => return format!("{} {}", number(kind), name),
+        (None, None) => return format!("{} {}", item_in_c(kind), name),
     };
     let items = kind.strip_suffix(']').expect("a slice or an array");
     match items.split_once(';') {
         Some((item, count)) if count.parse::<usize>().is_ok() => {
-            format!("{}{} {}[{}]", constant, number(item), name, count)
+            format!("{}{} {}[{}]", constant, item_in_c(item), name, count)
         }
         Some((item, count)) => {
-            format!("{}{} {}[{}{}]", constant, number(item), name, PREFIX, count)
+            format!("{}{} {}[{}{}]", constant, item_in_c(item), name, PREFIX, count)
         }
-        None => format!("{}{} *{}, size_t {}_size", constant, number(items), name, name),
+        None => format!("{}{} *{}, size_t {}_size", constant, item_in_c(items), name, name),
     }
 }
 

@@ -4,6 +4,7 @@ use crate::clock::timed;
 use crate::inputs::{both_ways, chain, regular, request, Reading};
 use crate::measure::{Case, Pair, Work};
 use enonkasse_sys::{build, fresh, serve, CONTEXT_SIZE, LIST_ROOM, STEP_SIZE};
+use judge::answer::StepBytes;
 use judge::pool::{Pool, MAX_NODES};
 use judge::random::whole_run;
 use judge::run::{pil, Original};
@@ -11,7 +12,7 @@ use judge::script::Request;
 use original::starkinfo_codegen::{build_code, pil_code_gen, Context};
 use original::types::PIL;
 use searches::search::fresh_context;
-use sessions::record::{framed, pool_frames};
+use sessions::record::{encoded, framed, pool_frames};
 
 /// Generation is to be so many times as fast.
 const AIM: f64 = 20.0;
@@ -87,12 +88,26 @@ fn original_whole(pool: &Pool, requests: &[Request]) -> Work {
 
 fn port_whole(pool: &Pool, requests: &[Request]) -> Work {
     let mut lent = Lent::new(pool, requests);
-    assert_eq!(lent.whole(), [0; 3]);
     Box::new(move || timed(|| lent.whole()))
+}
+
+/// The lists of both sides, which must be the same.
+fn check_lists(pool: &Pool, requests: &[Request]) {
+    let (mut context, mut pil) = (fresh_context(), pil(pool));
+    generate(&mut context, &mut pil, requests);
+    let segment = build_code(&mut context, &pil);
+    let mut lent = Lent::new(pool, requests);
+    assert_eq!(lent.whole(), [0; 3]);
+    for (list, expected) in lent.built().iter().zip([segment.first, segment.i, segment.last]) {
+        let steps = list.chunks(STEP_SIZE).map(|record| encoded(record, pool).expect("a step"));
+        let bytes = |section| StepBytes::of(section).expect("a step").bytes().to_vec();
+        assert!(steps.eq(expected.iter().map(bytes)), "the lists differ");
+    }
 }
 
 /// Fresh, all requests in one call, and a build.
 fn whole(title: String, pool: &Pool, requests: &[Request]) -> Pair {
+    check_lists(pool, requests);
     Pair {
         title,
         port: port_whole(pool, requests),

@@ -19,6 +19,9 @@ use searches::search::Search;
 /// Steps that a list has room for.
 const ROOM: usize = 64;
 
+/// One context of so many has been built.
+const BUILT_EVERY: usize = 4;
+
 /// Inputs of a run that are looked at for one with a walk over a list, and how many at the most.
 const INPUTS: u64 = 8;
 const TRIES: u64 = 200;
@@ -136,7 +139,7 @@ impl Good {
 }
 
 impl Session {
-    /// Half of the requests that come first are served.
+    /// Half of the requests that come first are served; in one session of four they are built, too.
     fn of(random: &mut Random, seed: u64, index: u64) -> Session {
         let script = random::case(seed, index, None).script;
         let requests: Vec<Request> = script.requests().copied().collect();
@@ -153,7 +156,17 @@ impl Session {
         // A refusal leaves the fresh context, which is good too.
         library::serve(&frames, 0, 0, &mut session.context, &mut session.list);
         session.requests = left.to_vec();
+        if random.one_of(BUILT_EVERY) {
+            session.forget_blocks();
+        }
         session
+    }
+
+    fn forget_blocks(&mut self) {
+        let (room, frames) = (vec![0; self.list.len()], pool_frames(&self.pool));
+        let [mut first, mut i, mut last] = [room.clone(), room.clone(), room];
+        let Session { context, list, .. } = self;
+        library::build(&frames, context, list, &mut first, &mut i, &mut last, &mut [0; 3]);
     }
 
     fn frames(&self, requests: &[Request]) -> Vec<u8> {
