@@ -323,6 +323,37 @@ uint8_t enonkasse_search(const uint8_t *frames, size_t frames_size, const uint64
                          uint64_t n_bits, uint64_t n_bits_ext, uint64_t limit, uint64_t chosen[ENONKASSE_SET_WORDS],
                          uint64_t found[2]);
 
+/* ---- The constraint polynomial ------------------------------------------------------------------------------------
+ *
+ * `generate_constraint_polynomial` in pieces, one after the other: the search; the pool with the constraint, whose last expression
+ * it is; its members served on the first context and built, which is step3; the members marked in the second context, the
+ * constraint served on it, the closing product, and a build, which is step42ns. Member number k of the set, counted from 0 in
+ * ascending order, gets the cm number commitments + k; the qs are the n_cm4 numbers from the first one on.
+ */
+#define ENONKASSE_CONSTRAINT_NUMBERS 6
+/* Bytes that always suffice for the frames of a pool: 19 for an addc or mulc, 6 for an expression. */
+#define ENONKASSE_MAX_FRAMES_SIZE 80896
+
+/* Marks expressions of a pool that has so many at both rows: they stand in columns, and no list makes them any more. Nothing else of
+ * the context changes. Refuses 9 of more than ENONKASSE_MAX_EXPRESSIONS expressions, 1 of the context, 3 of a member. */
+uint8_t enonkasse_mark(const uint64_t *members, size_t members_size, size_t expressions, uint8_t *context, size_t context_size,
+                       const uint8_t *list, size_t list_size);
+
+/* Puts the closing product, q0 = the last destination times Zi, at the end of the last block of a context of a pool that has so many
+ * expressions. Refuses 9 of more than ENONKASSE_MAX_EXPRESSIONS expressions, 1 of the context, 8 where no block stands, 9 where the
+ * list has no room for one step more. */
+uint8_t enonkasse_close(size_t expressions, uint8_t *context, size_t context_size, uint8_t *list, size_t list_size);
+
+/* Adds the constraint polynomial of the identities, numbers of expressions, to the pool, with the columns that a search chose, the
+ * challenge "vc" and so many quotients: puts the frames of the pool with it at the front of `out`, and says in `numbers` the
+ * constraint's expression, n_cm3, n_cm4, the first of the qs, nCommitments after it, and how many bytes the frames have. Refuses 1 and 9
+ * while reading, 1 of a set that is none of this pool's, 2, 3, 4 of the pool, 17, 3 of an identity, 9 of the limits of the pool with the constraint
+ * and of cm numbers past 65,535, 11 where commitments are fewer than n_cm1 + n_cm2, 9 where the frames have no room. */
+uint8_t enonkasse_constraint_pool(const uint8_t *frames, size_t frames_size, const uint64_t *identities, size_t identities_size,
+                                  const uint64_t chosen[ENONKASSE_SET_WORDS], uint16_t vc, size_t n_cm1, size_t n_cm2,
+                                  size_t commitments, size_t quotients, uint8_t *out, size_t out_size,
+                                  size_t numbers[ENONKASSE_CONSTRAINT_NUMBERS]);
+
 /* ---- Sections -----------------------------------------------------------------------------------------------------
  *
  * A polynomial's record. Within a section records of dimension 1 come first, then 2, then 3, each group in the order of the

@@ -155,6 +155,30 @@ impl Context {
         Ok(())
     }
 
+    /// Marks members of a pool that has so many expressions at both rows.
+    ///
+    /// # Errors
+    ///
+    /// 1 where the context is not of such a pool, 3 of a member, 9 of too many expressions.
+    pub fn mark_members(
+        &mut self,
+        members: &[ExpressionId],
+        expressions: usize,
+    ) -> Result<(), Refusal> {
+        let members: Vec<u64> = members.iter().map(|member| member.0.into()).collect();
+        Refusal::check(library::mark(&members, expressions, &mut self.bytes, &self.list))
+    }
+
+    /// Puts the closing product, q0 = the last destination times Zi, at the end of the last block.
+    ///
+    /// # Errors
+    ///
+    /// 1 where the context is not of a pool of so many expressions, 8 where no block stands, 9 where the list is
+    /// full.
+    pub fn close(&mut self, expressions: usize) -> Result<(), Refusal> {
+        Refusal::check(library::close(expressions, &mut self.bytes, &mut self.list))
+    }
+
     fn number_at(&self, at: usize) -> usize {
         usize::from(u16::from_be_bytes([self.bytes[at], self.bytes[at + 1]]))
     }

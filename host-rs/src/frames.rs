@@ -13,6 +13,9 @@ pub struct Frames {
 
 const NODE: u8 = 0x01;
 
+/// The bytes that say how long a frame is.
+const LENGTH: usize = 2;
+
 impl Frames {
     /// No frame.
     pub fn new() -> Frames {
@@ -29,6 +32,17 @@ impl Frames {
         self.starts.push(self.bytes.len());
         self.bytes.extend(size.to_be_bytes());
         self.bytes.extend(frame);
+    }
+
+    /// Those that the library wrote.
+    pub(crate) fn from_bytes(bytes: Vec<u8>) -> Frames {
+        let mut starts = Vec::new();
+        let mut at = 0;
+        while let Some(&[high, low]) = bytes.get(at..at + LENGTH) {
+            starts.push(at);
+            at += LENGTH + usize::from(u16::from_be_bytes([high, low]));
+        }
+        Frames { bytes, starts }
     }
 
     /// The same with requests behind.
@@ -50,7 +64,7 @@ impl Frames {
     }
 
     fn literal_of(&self, node: usize) -> Option<Literal> {
-        let start = self.starts.get(node)? + 2;
+        let start = self.starts.get(node)? + LENGTH;
         let end = self.starts.get(node + 1).copied().unwrap_or(self.bytes.len());
         let frame = &self.bytes[start..end];
         let kind = NodeKind::from_byte(*frame.get(1)?)?;

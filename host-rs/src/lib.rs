@@ -37,6 +37,7 @@
 #![deny(missing_docs)]
 #![forbid(unsafe_code)]
 
+pub mod constraint;
 pub mod context;
 pub mod evaluate;
 pub mod frames;

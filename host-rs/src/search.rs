@@ -3,7 +3,7 @@
 use crate::frames::Frames;
 use crate::pool::ExpressionId;
 use crate::refusal::Refusal;
-use enonkasse_sys::{self as library, MAX_EXPRESSIONS, SET_WORDS};
+use enonkasse_sys::{self as library, MAX_EXPRESSIONS, SET_BIT_WORDS, SET_WORDS};
 
 /// What a search found.
 #[derive(Clone, Debug, PartialEq, Eq, Hash)]
@@ -14,6 +14,19 @@ pub struct Found {
     pub q: u64,
     /// The calls of the degree rule that it took.
     pub visits: u64,
+}
+
+impl Found {
+    /// The set as the library takes it: a bit for each expression, then how many there are.
+    pub(crate) fn words(&self) -> [u64; SET_WORDS] {
+        let mut words = [0; SET_WORDS];
+        for expression in self.set.iter().map(|e| usize::from(e.0)).filter(|&e| e < MAX_EXPRESSIONS)
+        {
+            words[expression / 64] |= 1 << (expression % 64);
+        }
+        words[SET_BIT_WORDS] = self.set.len() as u64;
+        words
+    }
 }
 
 /// Searches for the columns that bring the degree of the identities down, in at most `limit` visits.

@@ -96,9 +96,11 @@ fn in_c(parameter: &str) -> String {
     let items = kind.strip_suffix(']').expect("a slice or an array");
     match items.split_once(';') {
         Some((item, count)) if count.parse::<usize>().is_ok() => {
-            format!("{} {}[{}]", number(item), name, count)
+            format!("{}{} {}[{}]", constant, number(item), name, count)
         }
-        Some((item, count)) => format!("{} {}[{}{}]", number(item), name, PREFIX, count),
+        Some((item, count)) => {
+            format!("{}{} {}[{}{}]", constant, number(item), name, PREFIX, count)
+        }
         None => format!("{}{} *{}, size_t {}_size", constant, number(items), name, name),
     }
 }

@@ -37,7 +37,7 @@ fn last_limit(more: u64) -> u64
     (1 << more) + 1
 }
 
-fn all_below(identities: &[u64], m: usize) -> bool
+pub fn all_below(identities: &[u64], m: usize) -> bool
     ensures { λ r. ⌜ r ≡ allBelow m (now (identities .entry)) ⌝ }
 {
     let mut k = 0;

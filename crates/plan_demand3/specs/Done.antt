@@ -2,63 +2,35 @@
 -- Assumes nothing.
 use Prim.Native.Nat.{ℕ, _≤_}
 use mathlib.Core.Path.{_≡_, refl, sym, _∙_, ap, subst}
-use mathlib.Core.Bool.{Bool, true, false, cond}
-use mathlib.Core.Option.{none}
+use mathlib.Core.Bool.{Bool, true}
 use mathlib.Core.List.{List, [], _∷_}
-use Rattle.meaning.specs.Refusals.{Refusal, Answer, done, refused}
+use Rattle.meaning.specs.Refusals.{Answer, done}
 use Rattle.meaning.specs.Laws.Tests.{then-done, done-same, done-not-refused}
 use Rattle.frames.specs.Order.{Input}
 use Rattle.frames.specs.Reading.{reading}
 use Rattle.pool.specs.Pool.{Pool}
 use Rattle.pool.specs.Numbered.{poolOf}
-use Rattle.plans.specs.Plan.{isPlan}
 use Rattle.plans.specs.Columns.{recordLimit, recordCount, fits}
-use Rattle.plans.specs.Agreement.{bitsGood, countsAgree}
 use Rattle.plans.specs.Passed.{few-records}
-use Rattle.map_records.specs.Mapping.{Mapping, mapped, someNone}
+use Rattle.map_records.specs.Mapping.{mapped}
 use Rattle.lent_lists.specs.Verdicts.{Verdict, fine, malformed, notThere, noRule, full}
 use Rattle.fixing.specs.ProverCode.{temporaries, proverVerdict, listAfter}
-use Rattle.planning.specs.Planning.{Planned, planned, argued, columned, Plans}
-use Rattle.planning.specs.Laws.Argued.{no-plan, too-many}
+use Rattle.planning.specs.Planning.{Planned, planned, Plans}
 use Rattle.plan_walks.specs.Walks.{goodSegment, Walked, ruled, walkSays, listsAfter}
 use Rattle.plan_walks.specs.Cms.{cmsOf}
 use Rattle.plan_walks.specs.Fix.{isN, rulesIn, fixWith, fixBy, FixIs}
 use Rattle.plan_walks.specs.declared.walk.Walk.{Walk}
+use Rattle.plan_exactly.specs.Known.{known}
 
 -- ---- a plan that is answered
-
-argued-fits : (b : List ℕ) (own : Bool) → argued b own ≡ done tt → fits b ≡ true
-argued-fits b own h = by (isPlan b) refl (fits b) refl
-  where
-    by : (t : Bool) → isPlan b ≡ t → (u : Bool) → fits b ≡ u → fits b ≡ true
-    by t p true q = q
-    by true p false q = absurd (done-not-refused (sym h ∙ too-many b own p q))
-    by false p false q = absurd (done-not-refused (sym h ∙ no-plan b own p))
-
-columned-mapped : (b : List ℕ) (p : Pool) (m : Mapping) → columned b p ≡ done m → mapped b p ≡ m
-unfolding columned
-columned-mapped b p m h = by (bitsGood b) (countsAgree b) (someNone (mapped b p .dims)) h
-  where
-    by :
-        (t u v : Bool) →
-        cond t (cond u (cond v (refused Refusal.noDimension none) (done (mapped b p))) (refused Refusal.counts none)) (refused Refusal.bits none) ≡ done m → mapped b p ≡ m
-    by true true true e = absurd (done-not-refused (sym e))
-    by true true false e = done-same (mapped b p) m e
-    by true false v e = absurd (done-not-refused (sym e))
-    by false u v e = absurd (done-not-refused (sym e))
 
 planned-so :
     (b : List ℕ) (own : Bool) (x : Answer Input) (i : Input) (z : Planned) → Plans b own x (done z) → x ≡ done i →
     (fits b ≡ true) × (planned (poolOf i) (mapped b (poolOf i)) ≡ z)
-planned-so b own x i z h q = by (argued b own) refl
-  where
-    by : (a : Answer (Unit {0})) → argued b own ≡ a → (fits b ≡ true) × (planned (poolOf i) (mapped b (poolOf i)) ≡ z)
-    by (refused k o) e = absurd (done-not-refused (h .unfit i q k o e))
-    by (done u) e =
-        let j = h .judged i q e in
-        let v = then-done (j .0) _ (sym (j .2)) in
-        let m = then-done (columned b (poolOf i)) _ (v .2) in
-        (argued-fits b own e, ap (planned (poolOf i)) (columned-mapped b (poolOf i) (m .0) (m .1)) ∙ done-same (planned (poolOf i) (m .0)) z (m .2))
+planned-so b own x i z h q =
+    let k = known b own x z h in
+    let e : i ≡ k .input = done-same i (k .input) (sym q ∙ k .read) in
+    (k .fitting, ap (λ (j : Input). planned (poolOf j) (mapped b (poolOf j))) e ∙ sym (k .is))
 
 -- ---- fixing that is done
 

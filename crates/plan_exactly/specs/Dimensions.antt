@@ -70,11 +70,11 @@ module _ (s b : List ℕ) (x : ℕ) (first i last : List ℕ) {first′ i′ las
   pub dimension-3 : (answerNo (walkSays r) ≡ 3) ↔ (Way b own (reading s) 3 ⊎ Drawn s b own (λ z. PassRefused (givenBy x b z) ls Refusal.notThere))
   dimension-3 = walk-3 s b own x ls h
 
-  -- 12: THE PLAN'S, or a source of dimension 0 is
+  -- 12: THE PLAN'S, or a source of dimension 0 is the first fault of the lists
   pub dimension-12 : (answerNo (walkSays r) ≡ 12) ↔ (Way b own (reading s) 12 ⊎ Drawn s b own (λ z. PassRefused (givenBy x b z) ls Refusal.noDimension))
   dimension-12 = walk-12 s b own x ls h
 
-  -- 10: an unwritten temporary, or a kind or a step without a rule, is
+  -- 10: an unwritten temporary, or a kind or a step without a rule, is the first fault of the lists
   pub dimension-10 : (answerNo (walkSays r) ≡ 10) ↔ Drawn s b own (λ z. PassRefused (givenBy x b z) ls Refusal.noRule)
   dimension-10 = walk-10 s b own x ls h
 

@@ -61,7 +61,7 @@ module _ (s b : List ℕ) (domain counter : ℕ) (first i last : List ℕ) where
         walk-refused h 3 (λ _. Refused3 (cmCount b) counter first i last)
         (by-plan notThere (λ n _. Refused3 n counter first i last) (λ rules cms. prover-3 cms counter first i last rules)) (λ e. omega (arith, e))
 
-    -- 10: a step or a reference without a rule is
+    -- 10: a step or a reference without a rule is the first fault of the lists
     pub fix-10 : (answerNo (walkSays r) ≡ 10) ↔ Drawn s b own (λ _. Refused10 (cmCount b) counter first i last)
     fix-10 =
         walk-alone h 10 (λ _. Refused10 (cmCount b) counter first i last)

@@ -89,7 +89,7 @@ module _ (s b first i last : List ℕ) where
         walk-refused h 3 (λ _. Refused3 (NoCm b) first i last)
         (by-plan notThere (λ A. Refused3 A first i last) (λ ts. walk.query-3 ts first i last) (λ A B e. refused-3-so A B e first i last)) (λ e. omega (arith, e))
 
-    -- 10: a step that is unknown or has too few sources is
+    -- 10: a step that is unknown or has too few sources is the first fault of the lists
     pub query-10 : (answerNo (walkSays r) ≡ 10) ↔ Drawn s b own (λ _. Refused10 (NoCm b) first i last)
     query-10 =
         walk-alone h 10 (λ _. Refused10 (NoCm b) first i last)

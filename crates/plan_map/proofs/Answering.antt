@@ -12,17 +12,16 @@ use Rattle.kinds.specs.Write.{write-is}
 use Rattle.meaning.specs.Refusals.{Refusal, Answer, done, refused, _then_}
 use Rattle.pool.specs.Pool.{Pool}
 use Rattle.plans.specs.Plan.{nBits, nBitsExt}
-use Rattle.plans.specs.Columns.{recordLimit, recordCount}
+use Rattle.plans.specs.Columns.{recordLimit}
 use Rattle.plans.specs.Agreement.{cmCount}
 use Rattle.sections.specs.Sums.{each-length}
 use Rattle.sections.specs.Sections.{known, positionsFrom}
 use Rattle.map_records.specs.Mapping.{cmLimit, cm1N, cm4N, twin, mapped}
-use Rattle.map_records.specs.Sizes.{mapped-size}
 use Rattle.map_records.specs.Agreed.{few-cms}
 use Rattle.plan_tables.specs.Tables.{numbersIn, columnRecords, recordOf, positions, exp2pol, cmN}
 use Rattle.plan_tables.specs.Listed.{Listed, listed-front, listed-size}
 use Rattle.plan_tables.specs.Gathered.{Fitting, columnsOf}
-use Rattle.plan_tables.specs.Sizes.{cm-n-size, cm-2ns-size, mapped-columns}
+use Rattle.plan_tables.specs.Sizes.{cm-n-size, cm-2ns-size, mapped-columns, held-few}
 use Rattle.plan_tables.specs.Whole.{bits-few}
 use Rattle.planning.specs.Planning.{Planned, planned}
 use Rattle.planning.specs.Answers.{unplannedSays, FramesGiven}
@@ -73,9 +72,7 @@ module _ {b : List ℕ} {p : Pool} {ss ds cs : List ℕ} {k : Plan} (d : Drawn b
   fitting = (d .planned .whole, d .planned .fits)
 
   pub records-few : k .records ≤ recordLimit
-  records-few =
-      let size : k .records ≡ recordCount b = sym (d .holds .count) ∙ mapped-size b p in
-      omega (arith, size, d .planned .fits)
+  records-few = held-few b p (d .planned) (d .holds)
 
   pub cms-few : cmCount b < cmLimit
   cms-few = few-cms b (d .planned)

@@ -29,7 +29,7 @@ module _ (a b s : ℕ) (l : List ℕ) (n k : ℕ) where
 -- ---- one record after the other
 
 module _ (a b : ℕ) where
-  numbers-few : (k : ℕ) (ss : List ℕ) → length (numbersIn a b k ss) ≤ length ss
+  pub numbers-few : (k : ℕ) (ss : List ℕ) → length (numbersIn a b k ss) ≤ length ss
   numbers-few k [] = omega arith
   numbers-few k (s ∷ ss) = by (within a b s) (numbers-few (suc k) ss)
     where

@@ -1,6 +1,6 @@
 -- HOW LONG THE TABLES OF A PLAN ARE: every cm number has a record in each domain and a tree, and every temporary column a record. Assumes nothing.
 use Prim.Native.Nat.{ℕ, zero, suc, _+_, _*_, _≤_}
-use mathlib.Core.Path.{_≡_, refl, _∙_, ap}
+use mathlib.Core.Path.{_≡_, refl, sym, _∙_, ap}
 use mathlib.Core.Bool.{Bool, true, false, _||_, cond}
 use mathlib.Core.List.{List, [], _∷_, _++_}
 use native.Mathlib.Omega.{arith}
@@ -8,11 +8,12 @@ use lib.ListN.{length, length-append}
 use Rattle.kinds.specs.Range.{within, within-in, within-below, within-above}
 use Rattle.pool.specs.Pool.{Pool}
 use Rattle.plans.specs.Plan.{cm1, cm2, cm3, qDeg, puCount, imCount, productCount, fOf, tOf, numOf, denOf, imOf}
-use Rattle.plans.specs.Columns.{among, isIm}
+use Rattle.plans.specs.Columns.{among, isIm, recordLimit, recordCount}
 use Rattle.plans.specs.Agreement.{cmCount, countsAgree}
 use Rattle.plans.specs.Passed.{counts-agree}
 use Rattle.map_records.specs.Mapping.{Mapping, pol, pair, grown, column, cm1s, hAt, zAt, lookup, lookupDim, lookups, products, dimIn, intermediates, qDim, quotients, mapped}
-use Rattle.map_records.specs.Sizes.{snoc-size, quotients-columns}
+use Rattle.map_records.specs.Sizes.{snoc-size, quotients-columns, mapped-size}
+use Rattle.map_records.specs.Tables.{Holds, Planned}
 use Rattle.plan_tables.specs.Tables.{numbersIn, cmN, cm2ns, columnRecords, treesOf, positions, trees}
 use Rattle.plan_tables.specs.Gathered.{columnsOf}
 use Rattle.plan_tables.specs.Sectioned.{numbers-snoc}
@@ -140,6 +141,14 @@ module _ (b : List ℕ) (p : Pool) (agree : countsAgree b ≡ true) where
   -- AND A TREE
   pub trees-size : length (trees (mapped b p)) ≡ cmCount b
   trees-size = trees-of-size (mapped b p .sections) (mapped b p .dims) (positions (mapped b p)) (cm2ns (mapped b p)) ∙ cm-2ns-size
+
+-- ---- records that stand in tables
+
+-- there are no more than the limit
+pub held-few : (b : List ℕ) (p : Pool) → Planned b → {ss ds cs : List ℕ} {n : ℕ} → Holds ss ds cs n (mapped b p) → n ≤ recordLimit
+held-few b p h {n = n} k =
+    let size : n ≡ recordCount b = sym (k .count) ∙ mapped-size b p in
+    omega (arith, size, h .fits)
 
 -- ---- temporary columns
 

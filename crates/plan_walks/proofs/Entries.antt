@@ -22,6 +22,7 @@ use Rattle.map_records.specs.Mapping.{mapped}
 use Rattle.planning.specs.Planning.{Planned, planned}
 use Rattle.planning.specs.Answers.{unplannedSays, Stands, Told, FramesGiven}
 use Rattle.planning.specs.Laws.Argued.{reason, unplanned-then}
+use Rattle.planning.specs.Laws.Drawn.{unplanned, answered}
 use Rattle.planning.specs.declared.answer.Unplanned.{Unplanned}
 use Rattle.planning.specs.declared.answer.Plan.{Plan}
 use Rattle.planning.specs.declared.answer.Planning.{Planning}
@@ -61,8 +62,7 @@ module _ {s b : List ℕ} {own : Bool} {w x table ss ds cs : List ℕ} {r : Plan
 
   pub unplanned-walk : {u : Unplanned} (what : Planned → Answer Walked) (ls : List (List ℕ)) → r ≡ planning.Refused u → WalkIs s b own what ls ls (walk.Unplanned u)
   unplanned-walk {u} what ls q =
-      let e : g .answer ≡ unplannedSays u = subst Tells q (g .told) in
-      let a : (g .answer then what) ≡ unplannedSays u = ap (λ (z : Answer Planned). z then what) e ∙ unplanned-then u what in
+      let a : (g .answer then what) ≡ unplannedSays u = ap (λ (z : Answer Planned). z then what) (unplanned g q) ∙ unplanned-then u what in
       record {
         answer = g .answer then what;
         goes = (g .answer, g .plans, refl);
@@ -130,16 +130,16 @@ module _ {s b : List ℕ} {own : Bool} {w x table ss ds cs : List ℕ} {r : Plan
       positionsAre = front-back (k .records) ps′ rest h f ∙ placed-positions (standing e) refl (sections-in e) (dims-in e) h q m;
     }
 
-    answered : (e : length table ≡ numberLimit) → g .answer ≡ done (plannedIn (standing e))
+    answers : (e : length table ≡ numberLimit) → g .answer ≡ done (plannedIn (standing e))
     unfolding standing
-    answered e = told .0 ∙ ap (λ m. done (planned (tabled (Tabling w (g .literals) x (g .nodeCount) m)) (mapped b (tabled (Tabling w (g .literals) x (g .nodeCount) m))))) counted
+    answers e = answered g q ∙ ap (λ m. done (planned (tabled (Tabling w (g .literals) x (g .nodeCount) m)) (mapped b (tabled (Tabling w (g .literals) x (g .nodeCount) m))))) counted
 
     pub planned-walk :
         (e : length table ≡ numberLimit) (what : Planned → Answer Walked) {ls ls′ : List (List ℕ)} {y : Walk}
         → Does (what (plannedIn (standing e))) ls ls′ y → WalkIs s b own what ls ls′ y
     planned-walk e what d = record {
       answer = what (plannedIn (standing e));
-      goes = (g .answer, g .plans, sym (ap (λ (z : Answer Planned). z then what) (answered e)));
+      goes = (g .answer, g .plans, sym (ap (λ (z : Answer Planned). z then what) (answers e)));
       does = d;
     }
 

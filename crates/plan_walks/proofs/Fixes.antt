@@ -1,21 +1,22 @@
 -- Fixing by a plan that stands in tables.
 -- Assumes nothing.
-use Prim.Native.Nat.{ℕ, suc, _≤_}
+use Prim.Native.Nat.{ℕ, _≤_}
 use mathlib.Core.Path.{_≡_, refl, sym, _∙_, ap, subst}
-use mathlib.Core.Bool.{Bool, true, false, cond}
+use mathlib.Core.Bool.{Bool, true, false}
 use mathlib.Core.List.{List, [], _∷_}
 use native.Mathlib.Omega.{arith}
 use lib.ListN.{length, take, replicate}
 use lib.Seq.{length-take-le}
-use Rattle.kinds.specs.Range.{within}
 use Rattle.meaning.specs.Refusals.{Answer, done, _then_}
 use Rattle.frames.specs.Order.{expressionLimit}
 use Rattle.pool.specs.Tabled.{tabled}
 use Rattle.plans.specs.Plan.{q2expCount, qDeg}
-use Rattle.plans.specs.Columns.{recordLimit, recordCount}
+use Rattle.plans.specs.Columns.{recordLimit}
 use Rattle.map_records.specs.Mapping.{cm1N, cm4N, twin, mapped}
-use Rattle.map_records.specs.Sizes.{quotients-columns, mapped-size}
+use Rattle.map_records.specs.Sizes.{quotients-columns}
 use Rattle.plan_tables.specs.Tables.{numbersIn}
+use Rattle.plan_tables.specs.Sectioned.{numbers-few}
+use Rattle.plan_tables.specs.Sizes.{held-few}
 use Rattle.plan_tables.specs.Listed.{Listed, listed-front, listed-size}
 use Rattle.plan_tables.specs.Gathered.{Fitting, columnsOf}
 use Rattle.plan_tables.specs.Rules as rules
@@ -30,14 +31,6 @@ use Rattle.plan_walks.specs.Fix.{rulesIn, fixWith, fixBy}
 use Rattle.plan_walks.specs.declared.walk.Walk.{Walk}
 
 -- ---- tables of a plan
-
-pub numbers-few : (a c k : ℕ) (ss : List ℕ) → length (numbersIn a c k ss) ≤ length ss
-numbers-few a c k [] = omega arith
-numbers-few a c k (s ∷ ss) = by (within a c s) (numbers-few a c (suc k) ss)
-  where
-    by : (r : Bool) → length (numbersIn a c (suc k) ss) ≤ length ss → length (cond r (k ∷ numbersIn a c (suc k) ss) (numbersIn a c (suc k) ss)) ≤ suc (length ss)
-    by true h = omega arith
-    by false h = omega arith
 
 cms-few : (inN : Bool) (ss : List ℕ) → length (cmsOf inN ss) ≤ length ss
 cms-few true ss = numbers-few _ _ 0 ss
@@ -61,9 +54,7 @@ module _ {b w x table cs : List ℕ} (z : Standing b w x table cs) where
   columns-few = omega (arith, z .stands .ready .planned .fits)
 
   pub records-few : z .plan .records ≤ recordLimit
-  records-few =
-      let size : z .plan .records ≡ recordCount b = sym (z .stands .holds .count) ∙ mapped-size b (tabled (tables z)) in
-      omega (arith, size, z .stands .ready .planned .fits)
+  records-few = held-few b (tabled (tables z)) (z .stands .ready .planned) (z .stands .holds)
 
   module _ {before columns : List ℕ} {n : ℕ} (g : Listed before columns n (columnsOf b)) (room : length before ≡ recordLimit) {q : ℕ} (e : q ≡ q2expCount b) where
     pub rules-asks : {rs : List ℕ} → rs ≡ replicate expressionLimit 0 → rules.RulesAsks b (tables z) (z .stands .rank) (take q table) columns n rs

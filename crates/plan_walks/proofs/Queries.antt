@@ -20,6 +20,7 @@ use Rattle.sections.specs.Sections.{known, wellFormed, mapping, positionsFrom, 
 use Rattle.sections.specs.Answer.{MappedIs, positionsAfter}
 use Rattle.sections.specs.declared.«map_section».Mapped.{Mapped}
 use Rattle.plan_tables.specs.Tables.{numbersIn, positions, trees, treesIn}
+use Rattle.plan_tables.specs.Sectioned.{numbers-few}
 use Rattle.plan_tables.specs.Sizes.{trees-of-size}
 use Rattle.plan_tables.specs.Listed.{Listed, listed-front, listed-size}
 use Rattle.planning.specs.Laws.Known.{mapped-known}
@@ -32,7 +33,7 @@ use Rattle.plan_walks.specs.Walks.{walked, ruled, walkSays, listsAfter, 
 use Rattle.plan_walks.specs.Standing.{Standing, tables, plannedIn, Tabled}
 use Rattle.plan_walks.specs.Query.{queryWith, queryBy, Placed}
 use Rattle.plan_walks.specs.declared.walk.Walk.{Walk}
-use Rattle.plan_walks.proofs.Fixes.{numbers-few, records-few, sections-are}
+use Rattle.plan_walks.proofs.Fixes.{records-few, sections-are}
 
 -- ---- positions
 

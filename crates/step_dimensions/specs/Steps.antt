@@ -30,9 +30,16 @@ builtStep n s a b c =
       s2 = sized (s .s2) c;
     }
 
+-- with the dimensions of all three
+unfoldable pub endedBy : ℕ → Step → ℕ → ℕ → ℕ → Answer Step
+endedBy n s a b c = cond (isDestination (s .dest .kind)) (done (builtStep n s a b c)) (refused Refusal.noRule none)
+
+-- from the third on, from the second on, and from the first
+unfoldable pub thirdBy : Given → List ℕ → ℕ → Step → ℕ → ℕ → Answer Step
+thirdBy g ts n s a b = slotDim g ts n (s .count) 2 (s .s2) then λ c. endedBy n s a b c
+
+unfoldable pub secondBy : Given → List ℕ → ℕ → Step → ℕ → Answer Step
+secondBy g ts n s a = slotDim g ts n (s .count) 1 (s .s1) then λ b. thirdBy g ts n s a b
+
 unfoldable pub stepBy : Given → List ℕ → ℕ → Step → Answer Step
-stepBy g ts n s =
-    slotDim g ts n (s .count) 0 (s .s0) then λ a.
-    slotDim g ts n (s .count) 1 (s .s1) then λ b.
-    slotDim g ts n (s .count) 2 (s .s2) then λ c.
-    cond (isDestination (s .dest .kind)) (done (builtStep n s a b c)) (refused Refusal.noRule none)
+stepBy g ts n s = slotDim g ts n (s .count) 0 (s .s0) then λ a. secondBy g ts n s a

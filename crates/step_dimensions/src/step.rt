@@ -11,7 +11,7 @@ use kinds::step_op::StepOp;
 ghost use mathlib.Core.Path.{_≡_};
 ghost use Prim.Native.Nat.{max};
 ghost use Rattle.step_dimensions.specs.StepDimensions.{sized, stepWith, noted};
-ghost use Rattle.step_dimensions.specs.Steps.{slotDim, largestOf, builtStep};
+ghost use Rattle.step_dimensions.specs.Steps.{slotDim, largestOf, builtStep, endedBy, thirdBy, secondBy};
 ghost use Rattle.step_dimensions.specs.Answers.{lent, sourcedSays, steppedSays};
 
 pub enum Stepped {
@@ -88,6 +88,78 @@ fn needed_dim(
     Sourced::Dim(r.dim)
 }
 
+// With the dimensions of its sources; refused where its destination has no rule.
+fn sized_where_written(needed: u8, s: Step, a: u16, b: u16, c: u16) -> Stepped
+    ensures { λ r. ⌜ steppedSays r ≡ endedBy needed s a b c ⌝ }
+{
+    let dest = s.dest;
+    if !is_destination(dest.kind) {
+        return Stepped::Refused(Why::NoRule);
+    }
+    Stepped::Sized(sized_step(needed, s, a, b, c))
+}
+
+// From its third source on, with the dimensions of those before it.
+fn from_third(
+    record_dims: &[u16],
+    cm_2ns: &[u16],
+    qs: &[u16],
+    dim_x: u16,
+    temporaries: &[u16; TEMPORARIES],
+    needed: u8,
+    s: Step,
+    a: u16,
+    b: u16,
+) -> Stepped
+    ensures { λ r. ⌜ steppedSays r ≡ thirdBy (lent (now (record_dims .entry)) (now («cm_2ns» .entry)) (now (qs .entry)) «dim_x») (now (temporaries .entry)) needed s a b ⌝ }
+{
+    match needed_dim(
+        record_dims,
+        cm_2ns,
+        qs,
+        dim_x,
+        temporaries,
+        needed,
+        s.count,
+        2,
+        s.s2,
+    ) {
+        Sourced::Refused(w) => Stepped::Refused(w),
+        Sourced::Dim(c) => sized_where_written(needed, s, a, b, c),
+    }
+}
+
+// From its second source on.
+fn from_second(
+    record_dims: &[u16],
+    cm_2ns: &[u16],
+    qs: &[u16],
+    dim_x: u16,
+    temporaries: &[u16; TEMPORARIES],
+    needed: u8,
+    s: Step,
+    a: u16,
+) -> Stepped
+    ensures { λ r. ⌜ steppedSays r ≡ secondBy (lent (now (record_dims .entry)) (now («cm_2ns» .entry)) (now (qs .entry)) «dim_x») (now (temporaries .entry)) needed s a ⌝ }
+{
+    match needed_dim(
+        record_dims,
+        cm_2ns,
+        qs,
+        dim_x,
+        temporaries,
+        needed,
+        s.count,
+        1,
+        s.s1,
+    ) {
+        Sourced::Refused(w) => Stepped::Refused(w),
+        Sourced::Dim(b) => {
+            from_third(record_dims, cm_2ns, qs, dim_x, temporaries, needed, s, a, b)
+        }
+    }
+}
+
 pub fn step_with(
     record_dims: &[u16],
     cm_2ns: &[u16],
@@ -102,7 +174,6 @@ pub fn step_with(
     if needed == 0 {
         return Stepped::Refused(Why::NoRule);
     }
-    let count = s.count;
     match needed_dim(
         record_dims,
         cm_2ns,
@@ -110,47 +181,13 @@ pub fn step_with(
         dim_x,
         temporaries,
         needed,
-        count,
+        s.count,
         0,
         s.s0,
     ) {
-        Sourced::Refused(w0) => Stepped::Refused(w0),
+        Sourced::Refused(w) => Stepped::Refused(w),
         Sourced::Dim(a) => {
-            match needed_dim(
-                record_dims,
-                cm_2ns,
-                qs,
-                dim_x,
-                temporaries,
-                needed,
-                count,
-                1,
-                s.s1,
-            ) {
-                Sourced::Refused(w1) => Stepped::Refused(w1),
-                Sourced::Dim(b) => {
-                    match needed_dim(
-                        record_dims,
-                        cm_2ns,
-                        qs,
-                        dim_x,
-                        temporaries,
-                        needed,
-                        count,
-                        2,
-                        s.s2,
-                    ) {
-                        Sourced::Refused(w2) => Stepped::Refused(w2),
-                        Sourced::Dim(c) => {
-                            let dest = s.dest;
-                            if !is_destination(dest.kind) {
-                                return Stepped::Refused(Why::NoRule);
-                            }
-                            Stepped::Sized(sized_step(needed, s, a, b, c))
-                        }
-                    }
-                }
-            }
+            from_second(record_dims, cm_2ns, qs, dim_x, temporaries, needed, s, a)
         }
     }
 }

@@ -68,4 +68,10 @@ constants! {
     SET_BIT_WORDS = 8;
     /// Words of a set of expressions: the bits, and how many are set.
     SET_WORDS = 9;
+
+    /// Numbers that the pool with the constraint is told with: c_exp, n_cm3, n_cm4, the first of qs, nCommitments, and
+    /// the bytes of its frames.
+    CONSTRAINT_NUMBERS = 6;
+    /// Bytes that always suffice for the frames of a pool: 19 for an addc or mulc, 6 for an expression.
+    MAX_FRAMES_SIZE = 19 * MAX_NODES + 6 * MAX_EXPRESSIONS;
 }

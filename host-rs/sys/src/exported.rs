@@ -2,7 +2,7 @@
 
 /// `fn EXPORT as NAME(PARAMETERS);` declares the library's EXPORT, which answers a number, and makes the
 /// function NAME of it. A parameter is a number, a slice, `&[T]` or `&mut [T]`, which crosses as a pointer and a
-/// length, or an array, `&mut [T; N]`, which crosses as a pointer.
+/// length, or an array, `&[T; N]` or `&mut [T; N]`, which crosses as a pointer.
 macro_rules! exported {
     ($($(#[$meta:meta])* fn $export:ident as $name:ident($($parameters:tt)*);)*) => {
         /// The name of every exported function, and its parameters as this crate declares them.
@@ -28,6 +28,14 @@ macro_rules! exported {
             @crossing $head $export $name $all
             [$($declared)* _: *mut $item, _: usize,]
             [$($given)* $part.as_mut_ptr(), $part.len(),] $($rest)*
+        }
+    };
+
+    (@crossing $head:tt $export:ident $name:ident $all:tt [$($declared:tt)*] [$($given:tt)*]
+        $part:ident: &[$item:ty; $count:expr], $($rest:tt)*) => {
+        exported! {
+            @crossing $head $export $name $all
+            [$($declared)* _: *const [$item; $count],] [$($given)* $part,] $($rest)*
         }
     };
 

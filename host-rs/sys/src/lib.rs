@@ -70,4 +70,22 @@ exported! {
         frames: &[u8], identities: &[u64], n_bits: u64, n_bits_ext: u64, limit: u64,
         chosen: &mut [u64; SET_WORDS], found: &mut [u64; 2]
     );
+
+    /// Marks these expressions of a pool that has so many at both rows: they stand in columns, and no list makes
+    /// them any more.
+    fn enonkasse_mark as mark(
+        members: &[u64], expressions: usize, context: &mut [u8], list: &[u8]
+    );
+
+    /// Puts the closing product, q0 = the last destination times Zi, at the end of the last block of a context of a
+    /// pool that has so many expressions.
+    fn enonkasse_close as close(expressions: usize, context: &mut [u8], list: &mut [u8]);
+
+    /// Adds the constraint polynomial of the identities to a pool, with the columns that a search chose: puts the
+    /// frames of the pool with it at the front of `out`, and says its numbers.
+    fn enonkasse_constraint_pool as constraint_pool(
+        frames: &[u8], identities: &[u64], chosen: &[u64; SET_WORDS], vc: u16,
+        n_cm1: usize, n_cm2: usize, commitments: usize, quotients: usize,
+        out: &mut [u8], numbers: &mut [usize; CONSTRAINT_NUMBERS]
+    );
 }

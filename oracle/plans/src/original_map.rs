@@ -29,18 +29,36 @@ pub struct After {
     pub end: Result<(), Panic>,
 }
 
+/// What the original holds before `map`.
+pub struct Before {
+    info: StarkInfo,
+    pil: PIL,
+    rows: StarkStruct,
+}
+
+impl Before {
+    pub fn new(pool: &Pool, plan: &Plan) -> Before {
+        let rows = StarkStruct {
+            nBits: usize::from(plan.n_bits),
+            nBitsExt: usize::from(plan.n_bits_ext),
+            ..StarkStruct::default()
+        };
+        let pil = PIL { q2exp: q2exp(plan), ..pil(pool) };
+        Before { info: stark_info(plan), pil, rows }
+    }
+
+    /// Runs `map`. Call it on a large stack.
+    pub fn map(self, mut program: Program) -> After {
+        let Before { mut info, mut pil, rows } = self;
+        let end = caught(|| info.map(&mut pil, &rows, &mut program))
+            .and_then(|done| done.map_err(|error| Panic(error.to_string())));
+        After { info, pil, program, end }
+    }
+}
+
 /// Runs `map`. Call it on a large stack.
-pub fn run_map(pool: &Pool, plan: &Plan, mut program: Program) -> After {
-    let mut info = stark_info(plan);
-    let mut pil = PIL { q2exp: q2exp(plan), ..pil(pool) };
-    let rows = StarkStruct {
-        nBits: usize::from(plan.n_bits),
-        nBitsExt: usize::from(plan.n_bits_ext),
-        ..StarkStruct::default()
-    };
-    let end = caught(|| info.map(&mut pil, &rows, &mut program))
-        .and_then(|done| done.map_err(|error| Panic(error.to_string())));
-    After { info, pil, program, end }
+pub fn run_map(pool: &Pool, plan: &Plan, program: Program) -> After {
+    Before::new(pool, plan).map(program)
 }
 
 fn q2exp(plan: &Plan) -> Vec<usize> {

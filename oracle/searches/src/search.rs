@@ -5,13 +5,14 @@ use crate::refusals::{BITS, KIND, NOT_THERE, NO_IDENTITY, NO_QUOTIENT, NO_SET, V
 use asked::question::Refused;
 use judge::pool::Pool;
 use judge::run::{pil, text_of};
-use original::counted::calculate_im_pols;
+use original::counted;
 use original::expressionops::ExpressionOps as E;
 use original::starkinfo::{Program, StarkInfo};
 use original::starkinfo_codegen::Context;
 use original::types::{Expression, PolIdentity, StarkStruct, PIL};
 use original::visits;
 use std::collections::HashMap;
+use std::fmt::Debug;
 use std::panic::{self, AssertUnwindSafe};
 
 const MAX_BITS: u8 = 24;
@@ -43,9 +44,9 @@ pub struct Found {
 
 /// A set that the original keeps, and its q as the original holds it: -1 is 2^64 - 1.
 #[derive(Clone, Debug, PartialEq, Eq)]
-struct Kept {
-    set: Vec<usize>,
-    q: usize,
+pub struct Kept {
+    pub set: Vec<usize>,
+    pub q: usize,
 }
 
 impl Kept {
@@ -91,16 +92,45 @@ impl Search {
         }
     }
 
-    /// The identities folded as vc·c + e.
-    fn folded(&self) -> Expression {
+    /// The pool, and the identities folded as vc·c + e.
+    pub fn folded(&self) -> Folded {
         let vc = E::challenge("vc".to_string());
         let mut leaves = self.identities.iter().map(|&e| E::exp(e.into(), None));
         let first = leaves.next().expect("an identity");
-        leaves.fold(first, |c, e| E::add(&E::mul(&vc, &c), &e))
+        let c_exp = leaves.fold(first, |c, e| E::add(&E::mul(&vc, &c), &e));
+        Folded { pil: self.pil(), c_exp, largest_d: (1 << (self.n_bits_ext - self.n_bits)) + 1 }
     }
+}
 
-    fn largest_d(&self) -> usize {
-        (1 << (self.n_bits_ext - self.n_bits)) + 1
+/// What the original's degree rule gives: a set, if there is one, and q.
+pub type Cut = (Option<HashMap<usize, bool>>, i32);
+
+/// What the original's loop over d goes over.
+pub struct Folded {
+    pil: PIL,
+    c_exp: Expression,
+    largest_d: usize,
+}
+
+impl Folded {
+    /// The loop over d of the original, around its degree rule: the unchanged one, or the one that counts. Call
+    /// it on a large stack.
+    pub fn kept<E: Debug>(
+        &mut self,
+        rule: fn(&mut PIL, &Expression, usize) -> Result<Cut, E>,
+    ) -> Option<Kept> {
+        let mut kept: Option<Kept> = None;
+        for d in 2..=self.largest_d {
+            let (set, q) = rule(&mut self.pil, &self.c_exp, d).expect("it never fails");
+            if let Some(set) = set {
+                let candidate = Kept { set: ascending(&set), q: q as usize };
+                let replaces = |kept: &Kept| kept.q == 0 || candidate.cost() < kept.cost();
+                if kept.as_ref().map_or(true, replaces) {
+                    kept = Some(candidate);
+                }
+            }
+        }
+        kept
     }
 }
 
@@ -142,22 +172,11 @@ pub fn visits_needed(search: &Search) -> Option<u64> {
     }
 }
 
-/// The loop over d of the original, around the degree rule that counts.
+/// The loop around the degree rule that counts.
 fn counted_loop(search: &Search) -> Option<Kept> {
-    let (mut pil, c_exp) = (search.pil(), search.folded());
+    let mut folded = search.folded();
     visits::begin(search.limit);
-    let mut kept: Option<Kept> = None;
-    for d in 2..=search.largest_d() {
-        let (set, q) = calculate_im_pols(&mut pil, &c_exp, d).expect("it never fails");
-        if let Some(set) = set {
-            let candidate = Kept { set: ascending(&set), q: q as usize };
-            let replaces = |kept: &Kept| kept.q == 0 || candidate.cost() < kept.cost();
-            if kept.as_ref().map_or(true, replaces) {
-                kept = Some(candidate);
-            }
-        }
-    }
-    kept
+    folded.kept(counted::calculate_im_pols)
 }
 
 fn ascending(set: &HashMap<usize, bool>) -> Vec<usize> {

@@ -16,6 +16,9 @@ pub enum Export {
     Dimension,
     DimensionFirst,
     Search,
+    Mark,
+    Close,
+    ConstraintPool,
 }
 
 /// What is lent: numbers, byte slices, slices and arrays of words, and an array of counts, each in the
@@ -37,7 +40,7 @@ impl Lent {
 }
 
 impl Export {
-    pub const ALL: [Export; 11] = [
+    pub const ALL: [Export; 14] = [
         Export::Fresh,
         Export::Serve,
         Export::Build,
@@ -49,6 +52,9 @@ impl Export {
         Export::Dimension,
         Export::DimensionFirst,
         Export::Search,
+        Export::Mark,
+        Export::Close,
+        Export::ConstraintPool,
     ];
 
     /// Its name in the library, without what all begin with.
@@ -66,13 +72,16 @@ impl Export {
             Export::Evaluate | Export::Map | Export::DimensionFirst => &[2],
             Export::Fix | Export::Query | Export::Dimension => &[2, 3, 4],
             Export::Search => &[],
+            Export::Mark => &[0],
+            Export::Close => &[0, 1],
+            Export::ConstraintPool => &[1],
         }
     }
 
     /// How many of the words are slices; the others are arrays, which it may write.
     pub fn word_slices(self) -> usize {
         match self {
-            Export::Evaluate | Export::Search => 1,
+            Export::Evaluate | Export::Search | Export::Mark | Export::ConstraintPool => 1,
             _ => 0,
         }
     }
@@ -170,6 +179,20 @@ impl Between {
                 numbers[2],
                 word().lent_array(),
                 word().lent_array(),
+            ),
+            Export::Mark => library::mark(word().lent(), numbers[0] as usize, next(), next()),
+            Export::Close => library::close(numbers[0] as usize, next(), next()),
+            Export::ConstraintPool => library::constraint_pool(
+                next(),
+                word().lent(),
+                word().lent_array(),
+                numbers[0] as u16,
+                numbers[1] as usize,
+                numbers[2] as usize,
+                numbers[3] as usize,
+                numbers[4] as usize,
+                next(),
+                counts.lent_array(),
             ),
         }
     }

@@ -6,7 +6,8 @@ use crate::planned;
 use crate::record::{framed, pool_frames};
 use crate::searched;
 use enonkasse_sys::{
-    self as library, CELL_SIZE, CONTEXT_SIZE, MAP_ROOM, SET_WORDS, STEP_COUNT_AT, STEP_SIZE,
+    self as library, CELL_SIZE, CONSTRAINT_NUMBERS, CONTEXT_SIZE, MAP_ROOM, SET_WORDS,
+    STEP_COUNT_AT, STEP_SIZE,
 };
 use judge::pool::Pool;
 use judge::random::{self, Random};
@@ -24,6 +25,9 @@ const TRIES: u64 = 200;
 
 /// The most visits of a search.
 const VISITS: u64 = 20_000;
+
+/// Bytes that the frames of the pool with a constraint may have more.
+const FRAMES_ROOM: usize = 600;
 
 /// What the walks and the search are lent at first.
 const COUNT: usize = 7;
@@ -88,6 +92,9 @@ impl Good {
             }
             Export::DimensionFirst => Lent::of_bytes(&segment[..3]),
             Export::Search => self.lent_to_search(),
+            Export::Mark => self.session.mark(),
+            Export::Close => self.session.close(),
+            Export::ConstraintPool => self.lent_to_constraint(),
         }
     }
 
@@ -98,6 +105,32 @@ impl Good {
             numbers: vec![(*n_bits).into(), (*n_bits_ext).into(), (*limit).min(VISITS)],
             words: vec![identities, vec![WORD; SET_WORDS], vec![WORD; 2]],
             ..Lent::of_bytes(&[&pool_frames(pool)])
+        }
+    }
+}
+
+impl Good {
+    /// With what the search chose, if it did.
+    fn lent_to_constraint(&self) -> Lent {
+        let Search { pool, identities, n_bits, n_bits_ext, limit } = &self.search;
+        let (frames, mut chosen, mut found) = (pool_frames(pool), [0; SET_WORDS], [0; 2]);
+        let identities: Vec<u64> = identities.iter().map(|&e| e.into()).collect();
+        let (bits, limit) = ((*n_bits).into(), (*limit).min(VISITS));
+        library::search(
+            &frames,
+            &identities,
+            bits,
+            (*n_bits_ext).into(),
+            limit,
+            &mut chosen,
+            &mut found,
+        );
+        let out = vec![0; frames.len() + FRAMES_ROOM];
+        Lent {
+            numbers: vec![self.dim_x.into(), 1, 2, 5, found[0]],
+            words: vec![identities, chosen.to_vec()],
+            counts: vec![COUNT; CONSTRAINT_NUMBERS],
+            ..Lent::of_bytes(&[&frames, &out])
         }
     }
 }
@@ -146,6 +179,20 @@ impl Session {
     fn run(&self) -> Lent {
         let parts: [&[u8]; 2] = [&self.frames(&self.requests), &self.list];
         Lent { counts: vec![COUNT; 2], ..Lent::of_bytes(&parts) }
+    }
+
+    /// The first expression and the last, where there are any.
+    fn mark(&self) -> Lent {
+        let count = self.pool.expressions().len() as u64;
+        let members = if count == 0 { Vec::new() } else { vec![0, count - 1] };
+        let parts: [&[u8]; 2] = [&self.context, &self.list];
+        Lent { numbers: vec![count], words: vec![members], ..Lent::of_bytes(&parts) }
+    }
+
+    fn close(&self) -> Lent {
+        let parts: [&[u8]; 2] = [&self.context, &self.list];
+        let count = self.pool.expressions().len() as u64;
+        Lent { numbers: vec![count], ..Lent::of_bytes(&parts) }
     }
 
     fn evaluate(&self) -> Lent {

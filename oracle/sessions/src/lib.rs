@@ -1,5 +1,6 @@
 //! The exported functions of the port and the original, on the same random input; and on garbage.
 
+pub mod constrained;
 #[cfg(test)]
 mod edges;
 pub mod evaluation;
@@ -18,6 +19,7 @@ mod refusals;
 #[cfg(test)]
 mod search_edges;
 pub mod searched;
+pub mod sectioned;
 mod session;
 mod spoiled;
 mod spread;

@@ -2,7 +2,7 @@
 
 use judge::command::{self, number, Done, DIFFERENT};
 use sessions::many::{self, Mode};
-use sessions::{garbage, planned, searched, stack, summary, whole};
+use sessions::{constrained, garbage, planned, searched, sectioned, stack, summary, whole};
 use std::process::ExitCode;
 
 const HELP: &str = "\
@@ -11,6 +11,8 @@ sessions runs SEED COUNT        compares the whole run as one call with the orig
 sessions evaluate SEED COUNT    evaluates COUNT first lists and compares the cells with the trees
 sessions plans SEED COUNT       compares COUNT random plans and the walks over lists by them with the original
 sessions searches SEED COUNT    compares COUNT random degree searches with the original
+sessions constraints SEED COUNT compares COUNT random constraint polynomials, made piece by piece, with the original
+sessions sections SEED COUNT    compares COUNT random lists of records, mapped into their sections, with the original
 sessions garbage SEED COUNT     calls every function COUNT times with good, damaged and random input
 sessions all SEED PERCENT       all of these, PERCENT of the full run, in one table
 sessions stack                  prints how much stack plans, walks and searches need on the deepest pools
@@ -47,6 +49,8 @@ fn asked(words: &[&str]) -> Option<Done> {
         ["runs", seed, count] => (compare_runs, seed, count),
         ["plans", seed, count] => (compare_plans, seed, count),
         ["searches", seed, count] => (compare_searches, seed, count),
+        ["constraints", seed, count] => (compare_constraints, seed, count),
+        ["sections", seed, count] => (compare_sections, seed, count),
         ["garbage", seed, count] => (try_garbage, seed, count),
         ["evaluate", seed, count] => (|seed, count| run(Mode::Lists, seed, count), seed, count),
         [seed, count] => (|seed, count| run(Mode::Sessions, seed, count), seed, count),
@@ -80,6 +84,21 @@ fn compare_plans(seed: u64, count: u64) -> Done {
 fn compare_searches(seed: u64, count: u64) -> Done {
     let (tally, difference) = searched::compare(seed, count)?;
     println!("{}", tally);
+    Ok(verdict(difference))
+}
+
+fn compare_constraints(seed: u64, count: u64) -> Done {
+    let (tally, difference) = constrained::compare(seed, count)?;
+    println!("{}", tally);
+    Ok(verdict(difference))
+}
+
+fn compare_sections(seed: u64, count: u64) -> Done {
+    let port = sectioned::Port::default();
+    let (tally, difference) = port.compare(seed, count)?;
+    println!("{}", tally);
+    println!("Calls with one thing wrong, each refused:");
+    println!("{}", port.faults.lock().expect("a tally"));
     Ok(verdict(difference))
 }
 

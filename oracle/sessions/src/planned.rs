@@ -3,6 +3,7 @@
 
 use crate::maps;
 use crate::record::{framed, u16_at};
+use crate::sectioned;
 use crate::spoiled::Fault;
 use crate::spread;
 use asked::rows::Rows;
@@ -52,12 +53,13 @@ impl Port {
         plans::tally::compare(seed, count, questions, |question| self.say(question))
     }
 
-    /// To `map` and to a walk; the others are not exported.
+    /// To `map`, to a walk and to records; `get_exp_dim` is not exported.
     pub fn say(&self, question: &Question) -> Said {
         match question {
             Question::Map(input) => self.map(input).map(Some),
             Question::Walk(input, walk, segment) => self.walk(input, *walk, segment).map(Some),
-            Question::ExpDims(_) | Question::Sections(_) => Ok(None),
+            Question::Sections(records) => sectioned::say(records),
+            Question::ExpDims(_) => Ok(None),
         }
     }
 

@@ -64,7 +64,7 @@ fn push_reference(record: &[u8], pool: &Pool, bytes: &mut Vec<u8>) -> Option<()>
 }
 
 /// What a node brings: neg brings 0.
-fn literal_of(pool: &Pool, node: usize) -> Option<Literal> {
+pub fn literal_of(pool: &Pool, node: usize) -> Option<Literal> {
     let node = pool.nodes().get(node)?;
     match node.kind {
         Kind::NEG => Some(Literal::from(0)),

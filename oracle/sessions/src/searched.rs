@@ -43,21 +43,31 @@ pub fn compare(seed: u64, count: u64) -> Result<(Tally, Option<String>), String>
     searches::tally::compare(seed, count, questions, say)
 }
 
-/// To a search; the constraint is not exported.
+/// To a search; the constraint is compared by itself.
 pub fn say(question: &Question) -> Said {
     match question {
-        Question::Search(search) => answer(search).map(Some),
+        Question::Search(search) => Ok(Some(match found(search)? {
+            Ok((found, _)) => Answer::Found(found),
+            Err(number) => Answer::Refused(number),
+        })),
         Question::Constraint(_) => Ok(None),
     }
 }
 
-fn answer(search: &Search) -> Result<Answer, String> {
+pub fn identities(search: &Search) -> Vec<u64> {
+    search.identities.iter().map(|&e| e.into()).collect()
+}
+
+/// The words of a set.
+pub type Chosen = [u64; SET_WORDS];
+
+/// What the search finds, with the set as it is lent, or its refusal; or what is wrong with what it left.
+pub fn found(search: &Search) -> Result<Result<(Found, Chosen), u8>, String> {
     let frames = pool_frames(&search.pool);
-    let identities: Vec<u64> = search.identities.iter().map(|&e| e.into()).collect();
     let (mut chosen, mut found) = ([UNWRITTEN; SET_WORDS], [UNWRITTEN; 2]);
     let number = library::search(
         &frames,
-        &identities,
+        &identities(search),
         search.n_bits.into(),
         search.n_bits_ext.into(),
         search.limit,
@@ -74,12 +84,12 @@ fn answer(search: &Search) -> Result<Answer, String> {
                 chosen[SET_BIT_WORDS]
             ));
         }
-        return Ok(Answer::Found(Found { set, q: q as usize, visits }));
+        return Ok(Ok((Found { set, q: q as usize, visits }, chosen)));
     }
     if chosen != [UNWRITTEN; SET_WORDS] || found != [UNWRITTEN; 2] {
         return Err(format!("refused with {}, and what was lent has changed\n", number));
     }
-    Ok(Answer::Refused(number))
+    Ok(Err(number))
 }
 
 fn members(chosen: &[u64; SET_WORDS]) -> Vec<usize> {

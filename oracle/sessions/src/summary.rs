@@ -1,7 +1,7 @@
 //! All that is compared with the original, and the garbage, in one table.
 
 use crate::many::{self, Mode};
-use crate::{garbage, planned, searched, whole};
+use crate::{constrained, garbage, planned, searched, sectioned, whole};
 use asked::rows::{total, Numbers, Rows, ACCEPTED};
 
 /// What one kind of input came to.
@@ -15,12 +15,14 @@ pub struct Summary {
 type Compare = fn(u64, u64) -> Result<Summary, String>;
 
 /// Each kind of input, and how many runs a hundred percent are.
-const KINDS: [(Compare, u64); 6] = [
+const KINDS: [(Compare, u64); 8] = [
     (runs, 100_000),
     (sessions, 100_000),
     (evaluations, 100_000),
     (plans, 25_000),
     (searches, 50_000),
+    (constraints, 50_000),
+    (sections, 100_000),
     (garbage, 100_000),
 ];
 
@@ -78,6 +80,20 @@ fn plans(seed: u64, runs: u64) -> Result<Summary, String> {
 fn searches(seed: u64, runs: u64) -> Result<Summary, String> {
     let (tally, difference) = searched::compare(seed, runs)?;
     Ok(Summary { kind: "searches", runs, numbers: tally.rows.numbers(), difference })
+}
+
+fn constraints(seed: u64, runs: u64) -> Result<Summary, String> {
+    let (tally, difference) = constrained::compare(seed, runs)?;
+    Ok(Summary { kind: "constraints", runs, numbers: tally.rows.numbers(), difference })
+}
+
+fn sections(seed: u64, runs: u64) -> Result<Summary, String> {
+    let port = sectioned::Port::default();
+    let (tally, difference) = port.compare(seed, runs)?;
+    let mut rows = Rows::default();
+    rows.add("", &tally.rows.numbers());
+    rows.add("", &port.faults.lock().expect("a tally").numbers());
+    Ok(Summary { kind: "sections", runs, numbers: rows.numbers(), difference })
 }
 
 fn garbage(seed: u64, runs: u64) -> Result<Summary, String> {

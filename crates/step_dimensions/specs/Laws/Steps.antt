@@ -19,7 +19,7 @@ use Rattle.meaning.specs.Refusals.{Refusal, Answer, done, refused, _then_}
 use Rattle.meaning.specs.Trees.{upTo}
 use Rattle.step_dimensions.specs.Rules.{ruleNo, isDestination}
 use Rattle.step_dimensions.specs.StepDimensions.{Given, sourceDim, sourceDims, largest, sizedStep, nothing, met, sourcesIn, stepWith, noted}
-use Rattle.step_dimensions.specs.Steps.{slotDim, largestOf, builtStep, stepBy}
+use Rattle.step_dimensions.specs.Steps.{slotDim, largestOf, builtStep, endedBy, thirdBy, secondBy, stepBy}
 
 -- ---- the largest
 
@@ -83,7 +83,7 @@ module _ (s : Step) where
   needs : (g : Given) (ts : List ℕ) (n : ℕ) → (n ≡ 0 → ⊥) → n ≤ 3
       → stepBy g ts n s
       ≡ (sourceDims g ts (upTo n (sourcesIn s)) then λ ds. cond (isDestination (s .dest .kind)) (done (sizedStep s ds)) (refused Refusal.noRule none))
-  unfolding stepBy sourceDims
+  unfolding stepBy secondBy thirdBy endedBy sourceDims
   needs g ts zero h l = absurd (h refl)
   needs g ts (suc zero) h l = by-one (isDestination (s .dest .kind)) (sourceDim g ts (met (ltb 0 (s .count)) (s .s0)))
   needs g ts (suc (suc zero)) h l = by-two (isDestination (s .dest .kind)) (sourceDim g ts (met (ltb 0 (s .count)) (s .s0))) (sourceDim g ts (met (ltb 1 (s .count)) (s .s1)))
@@ -91,6 +91,44 @@ module _ (s : Step) where
   needs g ts (suc (suc (suc (suc n)))) h l = absurd (omega arith)
 
 -- ---- the answers
+
+-- a source is refused, or has its dimension
+stops : {A B : Type 0} {x : Answer A} {w : Refusal} (f : A → Answer B) → refused w none ≡ x → refused w none ≡ (x then f)
+stops f e = rw (← e)
+
+goes : {A B : Type 0} {x : Answer A} {a : A} {y : Answer B} (f : A → Answer B) → done a ≡ x → y ≡ f a → y ≡ (x then f)
+goes f e h = rw (← e) h
+
+module _ (n : ℕ) (s : Step) (a b c : ℕ) (t : Bool) (et : t ≡ isDestination (s .dest .kind)) where
+  pub no-destination : t ≡ false → refused Refusal.noRule none ≡ endedBy n s a b c
+  unfolding endedBy
+  no-destination h =
+      let z : isDestination (s .dest .kind) ≡ false = sym et ∙ h in
+      rw z
+
+  pub sizes : t ≡ true → (y : Step) → y ≡ builtStep n s a b c → done y ≡ endedBy n s a b c
+  unfolding endedBy
+  sizes h y e =
+      let z : isDestination (s .dest .kind) ≡ true = sym et ∙ h in
+      rw z (ap done e)
+
+module _ (g : Given) (ts : List ℕ) (n : ℕ) (s : Step) (a : ℕ) where
+  module _ (b : ℕ) where
+    pub stop-third : (w : Refusal) → refused w none ≡ slotDim g ts n (s .count) 2 (s .s2) → refused w none ≡ thirdBy g ts n s a b
+    unfolding thirdBy
+    stop-third w e = stops (λ c. endedBy n s a b c) e
+
+    pub has-third : (c : ℕ) → done c ≡ slotDim g ts n (s .count) 2 (s .s2) → (y : Answer Step) → y ≡ endedBy n s a b c → y ≡ thirdBy g ts n s a b
+    unfolding thirdBy
+    has-third c e y h = goes (λ c. endedBy n s a b c) e h
+
+  pub stop-second : (w : Refusal) → refused w none ≡ slotDim g ts n (s .count) 1 (s .s1) → refused w none ≡ secondBy g ts n s a
+  unfolding secondBy
+  stop-second w e = stops (λ b. thirdBy g ts n s a b) e
+
+  pub has-second : (b : ℕ) → done b ≡ slotDim g ts n (s .count) 1 (s .s1) → (y : Answer Step) → y ≡ thirdBy g ts n s a b → y ≡ secondBy g ts n s a
+  unfolding secondBy
+  has-second b e y h = goes (λ b. thirdBy g ts n s a b) e h
 
 module _ (g : Given) (ts : List ℕ) (s : Step) (n : ℕ) (is : n ≡ sourcesNeeded (s .op)) where
   pub no-step : n ≡ 0 → refused Refusal.noRule none ≡ stepWith g ts s
@@ -106,30 +144,11 @@ module _ (g : Given) (ts : List ℕ) (s : Step) (n : ℕ) (is : n ≡ sourcesNee
 
     pub stop-first : (w : Refusal) → refused w none ≡ slotDim g ts n (s .count) 0 (s .s0) → refused w none ≡ stepWith g ts s
     unfolding stepBy
-    stop-first w e = sym (sym is-by ∙ rw (← e))
+    stop-first w e = stops (λ a. secondBy g ts n s a) e ∙ is-by
 
-    module _ (a : ℕ) (ea : done a ≡ slotDim g ts n (s .count) 0 (s .s0)) where
-      pub stop-second : (w : Refusal) → refused w none ≡ slotDim g ts n (s .count) 1 (s .s1) → refused w none ≡ stepWith g ts s
-      unfolding stepBy
-      stop-second w e = sym (sym is-by ∙ rw (← ea, ← e))
-
-      module _ (b : ℕ) (eb : done b ≡ slotDim g ts n (s .count) 1 (s .s1)) where
-        pub stop-third : (w : Refusal) → refused w none ≡ slotDim g ts n (s .count) 2 (s .s2) → refused w none ≡ stepWith g ts s
-        unfolding stepBy
-        stop-third w e = sym (sym is-by ∙ rw (← ea, ← eb, ← e))
-
-        module _ (c : ℕ) (ec : done c ≡ slotDim g ts n (s .count) 2 (s .s2)) (t : Bool) (et : t ≡ isDestination (s .dest .kind)) where
-          pub no-destination : t ≡ false → refused Refusal.noRule none ≡ stepWith g ts s
-          unfolding stepBy
-          no-destination h =
-              let z : isDestination (s .dest .kind) ≡ false = sym et ∙ h in
-              sym (sym is-by ∙ rw (← ea, ← eb, ← ec, z))
-
-          pub sizes : t ≡ true → (y : Step) → y ≡ builtStep n s a b c → done y ≡ stepWith g ts s
-          unfolding stepBy
-          sizes h y e =
-              let z : isDestination (s .dest .kind) ≡ true = sym et ∙ h in
-              ap done e ∙ sym (sym is-by ∙ rw (← ea, ← eb, ← ec, z))
+    pub has-first : (a : ℕ) → done a ≡ slotDim g ts n (s .count) 0 (s .s0) → (y : Answer Step) → y ≡ secondBy g ts n s a → y ≡ stepWith g ts s
+    unfolding stepBy
+    has-first a e y h = goes (λ a. secondBy g ts n s a) e h ∙ is-by
 
 -- ---- a source by its place
 

@@ -1,0 +1,3 @@
+-- What the exported functions' contracts cite, and what they say.
+pub mod Numbered
+pub mod Exactly

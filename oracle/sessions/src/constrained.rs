@@ -1,0 +1,197 @@
+//! The constraint polynomial in pieces, as a host calls them one after the other, compared with the original's.
+
+use crate::record::{encoded, framed, pool_frames, said};
+use crate::searched;
+use enonkasse_sys::{
+    self as library, CONSTRAINT_NUMBERS, CONTEXT_SIZE, LIST_ROOM, MAX_FRAMES_SIZE, SET_WORDS,
+    STEP_SIZE,
+};
+use judge::answer::StepBytes;
+use judge::hex;
+use judge::pool::Pool;
+use judge::script::{Command, Request, Script};
+use searches::constraint::{Built, Constraint, Made};
+use searches::question::{Answer, Question};
+use searches::search::Found;
+use searches::tally::{Labelled, Questions, Said, Tally};
+
+/// Why a piece did not come to its end: its number, or what is wrong with what it left.
+enum Stop {
+    Refused(u8),
+    Wrong(String),
+}
+
+impl From<String> for Stop {
+    fn from(text: String) -> Stop {
+        Stop::Wrong(text)
+    }
+}
+
+fn done(number: u8) -> Result<(), Stop> {
+    if number == 0 {
+        return Ok(());
+    }
+    Err(Stop::Refused(number))
+}
+
+/// A context with its list.
+struct Lent {
+    context: Vec<u8>,
+    list: Vec<u8>,
+}
+
+impl Lent {
+    /// A fresh one after these commands.
+    fn after(commands: &[Command], pool: &[u8]) -> Result<Lent, Stop> {
+        let mut lent =
+            Lent { context: vec![0; CONTEXT_SIZE], list: vec![0; STEP_SIZE * LIST_ROOM] };
+        done(library::fresh(&mut lent.context))?;
+        for command in commands {
+            match command {
+                Command::Request(request) => lent.serve(pool, &[*request])?,
+                Command::Build => drop(lent.build(pool)?),
+            }
+        }
+        Ok(lent)
+    }
+
+    fn serve(&mut self, pool: &[u8], requests: &[Request]) -> Result<(), Stop> {
+        let mut frames = pool.to_vec();
+        frames.extend(framed(requests.iter().map(Request::frame)));
+        done(library::serve(&frames, 0, 0, &mut self.context, &mut self.list))
+    }
+
+    /// The three lists as they are lent.
+    fn build(&mut self, pool: &[u8]) -> Result<[Vec<u8>; 3], Stop> {
+        let room = vec![0; STEP_SIZE * LIST_ROOM];
+        let (mut lists, mut sizes) = ([room.clone(), room.clone(), room], [0; 3]);
+        let [first, i, last] = &mut lists;
+        let context = &mut self.context;
+        done(library::build(pool, context, &self.list, first, i, last, &mut sizes))?;
+        lists.iter_mut().zip(sizes).for_each(|(list, size)| list.truncate(STEP_SIZE * size));
+        Ok(lists)
+    }
+
+    /// Its lists and its state after a build.
+    fn built(&mut self, frames: &[u8], pool: &Pool) -> Result<Built, Stop> {
+        let steps = |list: Vec<u8>| -> Result<Vec<StepBytes>, String> {
+            let step = |record| encoded(record, pool).map(StepBytes::encoded);
+            let steps: Option<_> = list.chunks(STEP_SIZE).map(step).collect();
+            steps.ok_or_else(|| "a step that generation does not make\n".to_string())
+        };
+        let [first, i, last] = self.build(frames)?;
+        let (first, i, last) = (steps(first)?, steps(i)?, steps(last)?);
+        let (state, ..) =
+            said(&self.context, pool.expressions().len()).ok_or("a bad context\n".to_string())?;
+        Ok(Built { first, i, last, state })
+    }
+}
+
+/// The pool with the constraint.
+struct Extended {
+    frames: Vec<u8>,
+    pool: Pool,
+    numbers: [usize; CONSTRAINT_NUMBERS],
+}
+
+fn extended(
+    constraint: &Constraint,
+    chosen: &[u64; SET_WORDS],
+    q: usize,
+) -> Result<Extended, Stop> {
+    let Constraint { n_cm1, n_cm2, commitments, vc, ref search, .. } = *constraint;
+    let (mut out, mut numbers) = (vec![0; MAX_FRAMES_SIZE], [0; CONSTRAINT_NUMBERS]);
+    done(library::constraint_pool(
+        &pool_frames(&search.pool),
+        &searched::identities(search),
+        chosen,
+        vc,
+        n_cm1.into(),
+        n_cm2.into(),
+        commitments.into(),
+        q,
+        &mut out,
+        &mut numbers,
+    ))?;
+    out.truncate(numbers[5]);
+    let pool = read(&out)?;
+    let same = pool.nodes().starts_with(search.pool.nodes())
+        && pool.expressions().starts_with(search.pool.expressions());
+    if !same {
+        return Err(Stop::Wrong("the pool is not the one that was lent\n".to_string()));
+    }
+    Ok(Extended { frames: out, pool, numbers })
+}
+
+/// Frames, each behind its length, as a pool.
+fn read(mut frames: &[u8]) -> Result<Pool, String> {
+    let mut text = String::new();
+    while let [high, low, rest @ ..] = frames {
+        let size = usize::from(u16::from_be_bytes([*high, *low]));
+        let (frame, behind) = rest.split_at(size.min(rest.len()));
+        text += &hex::encode(frame);
+        text += "\n";
+        frames = behind;
+    }
+    let script = Script::from_frames(&text).map_err(|fault| format!("{}\n", fault))?;
+    Ok(script.pool)
+}
+
+fn plain(expression: usize) -> Request {
+    Request { expression: expression as u16, prime: false, muladd: false, asked: None }
+}
+
+/// One piece after the other.
+fn made(constraint: &Constraint) -> Result<Made, Stop> {
+    let own = pool_frames(&constraint.search.pool);
+    let mut first = Lent::after(&constraint.first, &own)?;
+    let mut second = Lent::after(&constraint.second, &own)?;
+    let (found, chosen) = searched::found(&constraint.search)?.map_err(Stop::Refused)?;
+    let Found { ref set, q, .. } = found;
+    let Extended { frames, pool, numbers } = extended(constraint, &chosen, q)?;
+    let [c_exp, n_cm3, n_cm4, first_q, commitments, _] = numbers;
+    let expressions = pool.expressions().len();
+
+    first.serve(&frames, &set.iter().map(|&e| plain(e)).collect::<Vec<_>>())?;
+    let members: Vec<u64> = set.iter().map(|&e| e as u64).collect();
+    let Lent { context, list } = &mut second;
+    done(library::mark(&members, expressions, context, list))?;
+    second.serve(&frames, &[plain(c_exp)])?;
+    done(library::close(expressions, &mut second.context, &mut second.list))?;
+
+    let before = usize::from(constraint.commitments);
+    Ok(Made {
+        intermediates: set.iter().copied().zip(before..).collect(),
+        c_exp,
+        nodes: pool.nodes()[constraint.search.pool.nodes().len()..].to_vec(),
+        n_cm3,
+        n_cm4,
+        qs: (first_q..first_q + n_cm4).collect(),
+        commitments,
+        step3: first.built(&frames, &pool)?,
+        step42ns: second.built(&frames, &pool)?,
+        found,
+    })
+}
+
+fn say(question: &Question) -> Said {
+    let Question::Constraint(constraint) = question else {
+        return Ok(None);
+    };
+    match made(constraint) {
+        Ok(made) => Ok(Some(Answer::Made(Box::new(made)))),
+        Err(Stop::Refused(number)) => Ok(Some(Answer::Refused(number))),
+        Err(Stop::Wrong(text)) => Err(text),
+    }
+}
+
+/// Random constraints, with contexts that have served requests before.
+pub fn questions(seed: u64, index: u64) -> Questions {
+    let constraint = searches::random::constraint(seed, index);
+    Ok(vec![Labelled::new("constraint", Question::Constraint(constraint))])
+}
+
+/// Compares so many random constraints with the original, up to the first difference.
+pub fn compare(seed: u64, count: u64) -> Result<(Tally, Option<String>), String> {
+    searches::tally::compare(seed, count, questions, say)
+}
