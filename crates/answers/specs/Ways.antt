@@ -1,5 +1,5 @@
 -- THE ROWS OF THE REFUSAL TABLE, for each exported function: the ways in which a call comes to a number, in the order of its checks, each with what must not have been refused before it.
--- The first argument of a way is the number's condition; `Exact.antt` and `ExactPlans.antt` prove that a call has a number exactly when one of that number's ways is open.
+-- What a way takes is its condition, its index the number. `Exact.antt` and `ExactPlans.antt` prove that a call has a number exactly when one of that number's ways is open.
 -- Assumes nothing: these are definitions.
 use Prim.Native.Nat.{ℕ, _*_, _<_, _≤_}
 use mathlib.Core.Path.{_≡_}
