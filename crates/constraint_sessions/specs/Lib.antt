@@ -5,3 +5,4 @@ pub mod Stood
 pub mod Both
 pub mod Pieces
 pub mod LastStep
+pub mod Computes
