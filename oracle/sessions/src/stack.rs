@@ -1,10 +1,14 @@
 //! How much stack an exported function needs: what it touches is seen by painting it beforehand.
 
 use crate::planned::{Lent, Sent, Stage};
-use crate::record::pool_frames;
-use enonkasse_sys::{self as library, SET_WORDS};
+use crate::record::{framed, pool_frames};
+use enonkasse_sys::{
+    self as library, CONSTRAINT_NUMBERS, LIST_ROOM, MAX_FRAMES_SIZE, SET_BIT_WORDS, SET_WORDS,
+    STEP_SIZE,
+};
 use judge::case::{cm, exp, mul, neg, number, Case, Tree};
 use judge::pool::{Flags, Pool, MAX_EXPRESSIONS, MAX_NODES};
+use judge::script::Request;
 use plans::input::{Draft, Input};
 use plans::lists::Segment;
 use plans::plan::Plan;
@@ -23,6 +27,9 @@ const OF_THREAD: usize = 16 << 10;
 
 const PAINT: u64 = 0x5a17_c0de_5a17_c0de;
 
+/// Nodes that a pool has room for twice, with a constraint's own.
+const COPIED: usize = 2_040;
+
 /// Visits enough to reach the bottom of every pool here.
 const VISITS: u64 = 200_000;
 
@@ -39,6 +46,8 @@ fn pools() -> Vec<(&'static str, Pool)> {
     let trees = vec![
         ("one leaf", vec![cm(0)]),
         ("4,095 neg", vec![chain(cm(0), MAX_NODES - 1)]),
+        // There is room for a copy of it in a constraint.
+        ("2,040 neg", vec![chain(cm(0), COPIED)]),
         ("2,047 mul, left, cm", nested(|| cm(0), true)),
         ("2,047 mul, right, cm", nested(|| cm(0), false)),
         ("2,047 mul, left, number", nested(|| number(5), true)),
@@ -102,7 +111,41 @@ fn calls(pool: &Pool) -> Vec<(&'static str, Call<'_>)> {
         };
         calls.push(("search", Box::new(search)));
     }
+    calls.push(("run", Box::new(run(pool))));
+    calls.push(("constraint_pool", Box::new(constraint_pool(frames, last))));
     calls
+}
+
+/// The last expression, at both rows.
+fn run(pool: &Pool) -> impl Fn() -> u8 {
+    let expression = pool.expressions().len() as u16 - 1;
+    let request = |prime| Request { expression, prime, muladd: true, asked: None }.frame();
+    let mut frames = pool_frames(pool);
+    frames.extend(framed([request(false), request(true)]));
+    move || library::run(&frames, &mut vec![0; STEP_SIZE * LIST_ROOM], &mut [0; 2])
+}
+
+/// With the last expression as its identity and its member.
+fn constraint_pool(frames: Vec<u8>, last: u64) -> impl Fn() -> u8 {
+    let mut chosen = [0; SET_WORDS];
+    chosen[last as usize / 64] = 1 << (last % 64);
+    chosen[SET_BIT_WORDS] = 1;
+    move || {
+        let (mut out, mut numbers) = (vec![0; MAX_FRAMES_SIZE], [0; CONSTRAINT_NUMBERS]);
+        let identities = [last];
+        library::constraint_pool(
+            &frames,
+            &identities,
+            &chosen,
+            4,
+            1,
+            0,
+            1,
+            1,
+            &mut out,
+            &mut numbers,
+        )
+    }
 }
 
 /// The stack that a call touches, in bytes, and its answer.
