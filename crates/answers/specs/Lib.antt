@@ -2,5 +2,7 @@
 pub mod Ways
 pub mod Exact
 pub mod ExactPlans
+pub mod ConstraintWays
+pub mod ExactConstraint
 pub mod Numbers
 pub mod ListBytes

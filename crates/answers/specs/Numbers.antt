@@ -25,6 +25,8 @@ use Rattle.step_dimensions.specs.StepDimensions.{Given}
 use Rattle.dimensions.specs.Conditions.{SourceRefused, SourcesRefused, StepRefused, StepsRefused}
 use Rattle.search_meaning.specs.SearchCases.{Row}
 use Rattle.records.specs.declared.PolType.{PolType}
+use Rattle.constraint_frames.specs.Extension.{Question}
+use Rattle.answers.specs.ConstraintWays.{MarkWay, CloseWay, Extended, ExtendRead}
 use Rattle.answers.specs.Ways.{OfFrames, OfPool, OfPlan, FreshWay, Served, ServeRead, Built, BuildRead, Ran, Evaluated, EvaluateRead, Mapped, Fixed, Queried, Dimensioned, SectionWay}
 
 -- ── the numbers ──────────────────────────────────────────────────────────────
@@ -54,6 +56,15 @@ mapNumbers = 0 ∷ 1 ∷ 2 ∷ 3 ∷ 4 ∷ 9 ∷ 11 ∷ 12 ∷ 16 ∷ []
 
 abbrev pub searchNumbers : List ℕ
 searchNumbers = 0 ∷ 1 ∷ 2 ∷ 3 ∷ 4 ∷ 6 ∷ 9 ∷ 13 ∷ 14 ∷ 15 ∷ 16 ∷ 17 ∷ []
+
+abbrev pub markNumbers : List ℕ
+markNumbers = 0 ∷ 1 ∷ 3 ∷ 9 ∷ []
+
+abbrev pub closeNumbers : List ℕ
+closeNumbers = 0 ∷ 1 ∷ 8 ∷ 9 ∷ []
+
+abbrev pub extendNumbers : List ℕ
+extendNumbers = 0 ∷ 1 ∷ 2 ∷ 3 ∷ 4 ∷ 9 ∷ 11 ∷ 17 ∷ []
 
 abbrev pub sectionNumbers : List ℕ
 sectionNumbers = 0 ∷ 1 ∷ 9 ∷ []
@@ -206,6 +217,31 @@ row-has i a es vc b e limit k (Row.badKind q n v h) = rw q
 row-has i a es vc b e limit k (Row.noSet q n h) = rw q
 row-has i a es vc b e limit k (Row.noQuotient q n r t h z) = rw q
 row-has i a es vc b e limit k (Row.chosen q n r t h z) = rw q
+
+pub mark-has : (es : List ℕ) (m : ℕ) (x l : List ℕ) (k : ℕ) → MarkWay es m x l k → among k markNumbers ≡ true
+mark-has es m x l k (MarkWay.full f) = refl
+mark-has es m x l k (MarkWay.badContext f g) = refl
+mark-has es m x l k (MarkWay.lost f g d) = refl
+mark-has es m x l k (MarkWay.marked f g d) = refl
+
+pub close-has : (m : ℕ) (x l : List ℕ) (k : ℕ) → CloseWay m x l k → among k closeNumbers ≡ true
+close-has m x l k (CloseWay.past f) = refl
+close-has m x l k (CloseWay.badContext f g) = refl
+close-has m x l k (CloseWay.noBlock f g b) = refl
+close-has m x l k (CloseWay.full f g b r) = refl
+close-has m x l k (CloseWay.closed f g b r) = refl
+
+extended-has : (q : Question) (room : ℕ) (i : Input) (k : ℕ) → Extended q room i k → among k extendNumbers ≡ true
+extended-has q room i k (Extended.noIdentity e) = refl
+extended-has q room i k (Extended.lost s r) = refl
+extended-has q room i k (Extended.past o w) = refl
+extended-has q room i k (Extended.counts o w l) = refl
+extended-has q room i k (Extended.full o w l r) = refl
+extended-has q room i k (Extended.extended o w l r) = refl
+
+pub extend-has : (w : List ℕ) (q : Question) (room : ℕ) (i : Input) (k : ℕ) → ExtendRead w q room i k → among k extendNumbers ≡ true
+extend-has w q room i k (ExtendRead.badSet e) = refl
+extend-has w q room i k (ExtendRead.goodSet e c) = pool-has extendNumbers (poolOf i) (λ a. Extended q room i) refl refl refl (λ a. extended-has q room i) k c
 
 pub section-has : (rs : List PolType) (a b c room k : ℕ) → SectionWay rs a b c room k → among k sectionNumbers ≡ true
 section-has rs a b c room k (SectionWay.malformed h) = refl

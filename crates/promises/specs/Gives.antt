@@ -10,8 +10,11 @@ use Rattle.pool.specs.Numbered.{poolOf}
 use Rattle.planning.specs.Ways as plan
 use Rattle.search_meaning.specs.SearchCases.{Row}
 use Rattle.answers.specs.Ways.{OfPool, ServeRead, BuildRead, Ran, EvaluateRead, Mapped, Fixed, Queried, Dimensioned}
+use Rattle.sets.specs.Members.{members}
+use Rattle.constraint_frames.specs.Extension.{asking}
+use Rattle.answers.specs.ConstraintWays.{ExtendRead}
 use Rattle.promises.specs.Rows.{Call, Holds, rows}
-use Rattle.answers.specs.Numbers.{among, freshNumbers, serveNumbers, buildNumbers, runNumbers, evaluateNumbers, mapNumbers, searchNumbers, sectionNumbers, walkNumbers, build-has, dimensioned-has, evaluate-has, fixed-has, frames-has, fresh-has, mapped-has, maps-plan, plan-has, pool-has, queried-has, ran-has, row-has, section-has, serve-has, walks-plan}
+use Rattle.answers.specs.Numbers.{among, freshNumbers, serveNumbers, buildNumbers, runNumbers, evaluateNumbers, mapNumbers, searchNumbers, sectionNumbers, markNumbers, closeNumbers, extendNumbers, mark-has, close-has, extend-has, walkNumbers, build-has, dimensioned-has, evaluate-has, fixed-has, frames-has, fresh-has, mapped-has, maps-plan, plan-has, pool-has, queried-has, ran-has, row-has, section-has, serve-has, walks-plan}
 
 -- ── the statement ────────────────────────────────────────────────────────────
 abbrev pub numbers : {n : ℕ} → Call n → List ℕ
@@ -26,6 +29,9 @@ numbers (Call.query s b first i last first′ i′ last′ h) = walkNumbers
 numbers (Call.dimension s b d first i last first′ i′ last′ h) = walkNumbers
 numbers (Call.dimensionFirst s b first first′ h) = walkNumbers
 numbers (Call.search vc s es b e limit w w′ z z′ h) = searchNumbers
+numbers (Call.mark es m x x′ l h) = markNumbers
+numbers (Call.close m x x′ l l′ h) = closeNumbers
+numbers (Call.constraintPool s ids w vc c o o′ z z′ h) = extendNumbers
 numbers (Call.mapSection rs rs′ ss ss′ ds ds′ ps ps′ ws ws′ h) = sectionNumbers
 
 -- ── the proof ────────────────────────────────────────────────────────────────
@@ -43,6 +49,9 @@ way-has (Call.dimensionFirst s b first first′ h) k v = plan-has walkNumbers wa
 way-has (Call.search vc s es b e limit w w′ z z′ h) k v =
     frames-has searchNumbers s (λ i. OfPool (poolOf i) (λ a. Row (forest (poolOf i)) a es vc b e limit)) refl refl
     (λ i j. pool-has searchNumbers (poolOf i) (λ a. Row (forest (poolOf i)) a es vc b e limit) refl refl refl (λ a m. row-has i a es vc b e limit m) j) k v
+way-has (Call.mark es m x x′ l h) k v = mark-has es m x l k v
+way-has (Call.close m x x′ l l′ h) k v = close-has m x l k v
+way-has (Call.constraintPool s ids w vc c o o′ z z′ h) k v = frames-has extendNumbers s (ExtendRead w (asking ids (members w) vc c) _) refl refl (extend-has w (asking ids (members w) vc c) _) k v
 way-has (Call.mapSection rs rs′ ss ss′ ds ds′ ps ps′ ws ws′ h) k v = section-has rs _ _ _ _ k v
 
 -- NO OTHER NUMBER

@@ -1,5 +1,5 @@
 -- ONLY ONE OUTCOME FITS what each exported function promises: for the same inputs the number is the same, and so is all that is lent after it.
--- Two are stated of what a slice holds, since a contract speaks of numbers: the list after `serve` of bytes, the set after `search` of 64-bit words. Nothing is left open.
+-- Three are stated of what a slice holds, since a contract speaks of numbers: the list after `serve` and `close` of bytes, the set after `search` of 64-bit words. Nothing is left open.
 -- Assumes nothing.
 use Prim.Native.Nat.{ℕ, _^_, _<_}
 use mathlib.Core.Path.{_≡_, sym, _∙_, ap, subst}
@@ -38,6 +38,14 @@ use Rattle.host.specs.Runs.{RunNumbered, totalsTold}
 use Rattle.host.specs.Maps.{MapNumbered}
 use Rattle.host.specs.Plans.{WalkNumbered, WalkCounted}
 use Rattle.host.specs.Searches.{SearchNumbered, setIs, choiceTold}
+use Rattle.sets.specs.Members.{members}
+use Rattle.constraint_pool.specs.declared.judge.Columns.{Columns}
+use Rattle.constraint_pieces.specs.Marking.{StandsMarked}
+use Rattle.constraint_frames.specs.Extension as constrain
+use Rattle.constraint_frames.specs.Extension.{Extension, roomAfter}
+use Rattle.constraint_frames.specs.Unique as constraint
+use Rattle.constraint_host.specs.Numbered.{MarkNumbered, CloseNumbered, PoolNumbered, numbersTold}
+use Rattle.constraint_host.specs.Exactly.{one-marked, one-closed}
 use Rattle.promises.specs.Contracts.{QueryNumbered, DimensionNumbered, FirstNumbered, nthOf}
 use Rattle.answers.specs.ListBytes.{one-list}
 
@@ -46,18 +54,20 @@ use Rattle.answers.specs.ListBytes.{one-list}
 pub one-fresh : {x x₁ x₂ : List ℕ} {n₁ n₂ : ℕ} → FreshNumbered x x₁ n₁ → FreshNumbered x x₂ n₂ → (n₁ ≡ n₂) × (x₁ ≡ x₂)
 one-fresh a b = (a .number ∙ sym (b .number), a .bytes ∙ sym (b .bytes))
 
+-- what stands in a context and its list after an answer is one context, and one list of bytes
+same-stands :
+    (a : Answer Said) (x l : List ℕ) {x₁ x₂ l₁ l₂ : List ℕ} → Bytes l₁ → Bytes l₂ → Stands a x l x₁ l₁ → Stands a x l x₂ l₂ → (x₁ ≡ x₂) × (l₁ ≡ l₂)
+same-stands (done st) x l p q c d = (c .0 ∙ sym (d .0), one-list (c .1) (d .1) p q)
+same-stands (refused k o) x l p q c d = (c .0 ∙ sym (d .0), c .1 ∙ sym (d .1))
+
 -- enonkasse_serve: the number, the context, and the list's bytes
 pub one-serve :
     (s : List ℕ) (w : Wanted) (x l : List ℕ) {x₁ x₂ l₁ l₂ : List ℕ} {n₁ n₂ : ℕ} →
     ServeNumbered s w x x₁ l l₁ n₁ → ServeNumbered s w x x₂ l l₂ n₂ → Bytes l₁ → Bytes l₂ → (n₁ ≡ n₂) × (x₁ ≡ x₂) × (l₁ ≡ l₂)
 one-serve s w x l {x₁} {x₂} {l₁} {l₂} g h p q =
     let e = one-served (reading s) w x l (g .0) (h .0) (g .1) (h .1) in
-    let z = same (g .0) (g .3) (subst (λ (a : Answer Said). Stands a x l x₂ l₂) (sym e) (h .3)) in
+    let z = same-stands (g .0) x l p q (g .3) (subst (λ (a : Answer Said). Stands a x l x₂ l₂) (sym e) (h .3)) in
     (g .2 ∙ ap answerNo e ∙ sym (h .2), z .0, z .1)
-  where
-    same : (a : Answer Said) → Stands a x l x₁ l₁ → Stands a x l x₂ l₂ → (x₁ ≡ x₂) × (l₁ ≡ l₂)
-    same (done st) c d = (c .0 ∙ sym (d .0), one-list (c .1) (d .1) p q)
-    same (refused k o) c d = (c .0 ∙ sym (d .0), c .1 ∙ sym (d .1))
 
 -- enonkasse_build: the number, the context, the three lists, and their sizes
 pub one-build :
@@ -161,3 +171,35 @@ one-search s es b e limit w z {w₁} {w₂} g h p q =
     same : (a : Answer Choice) → SetAfter a w w₁ → setIs a w₁ → SetAfter a w w₂ → setIs a w₂ → w₁ ≡ w₂
     same (done c) u m v k = words-same w₁ w₂ u v (sym m ∙ k) p q
     same (refused k o) u m v n = u ∙ sym v
+
+-- ── the pieces of the constraint ─────────────────────────────────────────────
+-- enonkasse_mark: the number, and the context
+pub one-mark :
+    (es : List ℕ) (m : ℕ) (x l : List ℕ) {x₁ x₂ : List ℕ} {n₁ n₂ : ℕ} → MarkNumbered es m x x₁ l n₁ → MarkNumbered es m x x₂ l n₂ → (n₁ ≡ n₂) × (x₁ ≡ x₂)
+one-mark es m x l {x₁} {x₂} g h =
+    let e = one-marked es m x l (g .0) (h .0) (g .1) (h .1) in
+    (g .2 ∙ ap answerNo e ∙ sym (h .2), same (g .0) (g .3) (subst (λ (a : Answer Said). StandsMarked es a x x₂) (sym e) (h .3)))
+  where
+    same : (a : Answer Said) → StandsMarked es a x x₁ → StandsMarked es a x x₂ → x₁ ≡ x₂
+    same (done st) c d = c ∙ sym d
+    same (refused k o) c d = c ∙ sym d
+
+-- enonkasse_close: the number, the context, and the list's bytes
+pub one-close :
+    (m : ℕ) (x l : List ℕ) {x₁ x₂ l₁ l₂ : List ℕ} {n₁ n₂ : ℕ} →
+    CloseNumbered m x x₁ l l₁ n₁ → CloseNumbered m x x₂ l l₂ n₂ → Bytes l₁ → Bytes l₂ → (n₁ ≡ n₂) × (x₁ ≡ x₂) × (l₁ ≡ l₂)
+one-close m x l {x₁} {x₂} {l₁} {l₂} g h p q =
+    let e = one-closed m x l (g .0) (h .0) (g .1) (h .1) in
+    let z = same-stands (g .0) x l p q (g .3) (subst (λ (a : Answer Said). Stands a x l x₂ l₂) (sym e) (h .3)) in
+    (g .2 ∙ ap answerNo e ∙ sym (h .2), z .0, z .1)
+
+-- enonkasse_constraint_pool: the number, the frames, and the six numbers
+pub one-constraint-pool :
+    (s ids w : List ℕ) (vc : ℕ) (c : Columns) (o z : List ℕ) {o₁ o₂ z₁ z₂ : List ℕ} {n₁ n₂ : ℕ} →
+    PoolNumbered s ids w vc c o o₁ z z₁ n₁ → PoolNumbered s ids w vc c o o₂ z z₂ n₂ → (n₁ ≡ n₂) × (o₁ ≡ o₂) × (z₁ ≡ z₂)
+one-constraint-pool s ids w vc c o z g h =
+    let e = constraint.one-run (reading s) w (constrain.asking ids (members w) vc c) (length o) (g .answer) (h .answer) (g .runs) (h .runs) in (
+      g .number ∙ ap answerNo e ∙ sym (h .number),
+      g .room ∙ ap (roomAfter o) e ∙ sym (h .room),
+      g .told ∙ ap (λ (a : Answer Extension). numbersTold (a then λ x. done (x .numbers)) z) e ∙ sym (h .told),
+    )

@@ -1,19 +1,20 @@
 -- THE REFUSAL TABLE: whatever exported function is called, and with whatever it is lent, the number is k exactly when row k of document 01's table holds of the call.
--- The conditions stand in `Ways.antt`, a way for each; where to look for a row:
+-- The conditions stand in `Ways.antt` and `ConstraintWays.antt` of `answers`, a way for each; where to look for a row:
 --   1  frames `OfFrames.malformed`; result and context `ServeRead.badResult`, `badContext`, `BuildRead.badContext`; `FreshWay.malformed`; list, modulus and values
---      `EvaluateRead.illFormed`; plan and lists `plan.Way.noPlan`, `illFormed`; records `SectionWay.malformed`
+--      `EvaluateRead.illFormed`; plan and lists `plan.Way.noPlan`, `illFormed`; records `SectionWay.malformed`; `MarkWay.badContext`, `CloseWay.badContext`, `ExtendRead.badSet`
 --   2  `OfPool.childCount`, `plan.Way.childCount`
---   3  `OfPool.lost`, `plan.Way.lost`; of a request `Served.lost`, `Ran.lost`; of a list `Fixed.notThere`, `Queried.notThere`, `Dimensioned.met`; of an identity `Row.notThere`
+--   3  `OfPool.lost`, `plan.Way.lost`; of a request `Served.lost`, `Ran.lost`; of a list `Fixed.notThere`, `Queried.notThere`, `Dimensioned.met`; of an identity `Row.notThere`, `Extended.lost`; of a member `MarkWay.lost`
 --   4  `OfPool.cycle`, `plan.Way.cycle`
 --   5  `Served.doublePrime`, `Ran.doublePrime`
 --   6  `Row.badKind`
---   7  `Served.noPrimedMark`           8  `Served.noBlock`
---   9  frames `OfFrames.past`; no room `Served.full`, `Built.full`, `Ran.full`, `Evaluated.full`, `Mapped.full`, `Fixed.full`, `SectionWay.full`; `plan.Way.tooMany`
+--   7  `Served.noPrimedMark`           8  `Served.noBlock`, `CloseWay.noBlock`
+--   9  frames `OfFrames.past`; no room `Served.full`, `Built.full`, `Ran.full`, `Evaluated.full`, `Mapped.full`, `Fixed.full`, `SectionWay.full`; `plan.Way.tooMany`; `MarkWay.full`, `CloseWay.past`, `full`, `Extended.past`, `full`
 --   10 `Evaluated.noRule`, `Fixed.noRule`, `Queried.noRule`, `Dimensioned.met`
---   11 `plan.Way.counts`               12 `plan.Way.undimensioned`, `Dimensioned.met`
+--   11 `plan.Way.counts`, `Extended.counts`
+--   12 `plan.Way.undimensioned`, `Dimensioned.met`
 --   13 `Row.noSet`                     14 `Row.noQuotient`
 --   15 `Row.overLimit`                 16 `plan.Way.bits`, `Row.bits`
---   17 `Row.noIdentity`
+--   17 `Row.noIdentity`, `Extended.noIdentity`
 -- Assumes nothing.
 use Prim.Native.Nat.{ℕ}
 use mathlib.Core.Path.{_≡_, refl, sym, _∙_}
@@ -35,6 +36,12 @@ use Rattle.host.specs.Runs.{RunNumbered}
 use Rattle.host.specs.Maps.{MapNumbered}
 use Rattle.host.specs.Plans.{WalkCounted}
 use Rattle.host.specs.Searches.{SearchNumbered}
+use Rattle.sets.specs.Members.{members}
+use Rattle.constraint_pool.specs.declared.judge.Columns.{Columns}
+use Rattle.constraint_frames.specs.Extension.{asking}
+use Rattle.constraint_host.specs.Numbered.{MarkNumbered, CloseNumbered, PoolNumbered}
+use Rattle.answers.specs.ConstraintWays.{MarkWay, CloseWay, ExtendWay}
+use Rattle.answers.specs.ExactConstraint.{of-mark, of-close, of-extend}
 use Rattle.promises.specs.Contracts.{QueryNumbered, DimensionNumbered, FirstNumbered}
 use Rattle.answers.specs.Ways.{FreshWay, ServeWay, BuildWay, RunWay, EvaluateWay, MapWay, FixWay, QueryWay, DimensionWay, FirstWay, SearchWay, SectionWay}
 use Rattle.answers.specs.Exact.{of-serve, of-build, of-run, of-evaluate, of-search}
@@ -55,6 +62,9 @@ pub data Call (n : ℕ) : Type 0 where
   dimensionFirst : (s b first first′ : List ℕ) → FirstNumbered s b first first′ n → Call n
   -- whatever the number of "vc" is taken to be
   search : (vc : ℕ) (s es : List ℕ) (b e limit : ℕ) (w w′ z z′ : List ℕ) → SearchNumbered s es b e limit w w′ z z′ n → Call n
+  mark : (es : List ℕ) (m : ℕ) (x x′ l : List ℕ) → MarkNumbered es m x x′ l n → Call n
+  close : (m : ℕ) (x x′ l l′ : List ℕ) → CloseNumbered m x x′ l l′ n → Call n
+  constraintPool : (s ids w : List ℕ) (vc : ℕ) (c : Columns) (o o′ z z′ : List ℕ) → PoolNumbered s ids w vc c o o′ z z′ n → Call n
   mapSection : (rs rs′ : List PolType) (ss ss′ ds ds′ ps ps′ ws ws′ : List ℕ) → RecordsMapped rs rs′ ss ss′ ds ds′ ps ps′ ws ws′ n → Call n
 
 -- ROW k HOLDS of a call
@@ -70,6 +80,9 @@ Holds (Call.query s b first i last first′ i′ last′ h) k = QueryWay s b fir
 Holds (Call.dimension s b d first i last first′ i′ last′ h) k = DimensionWay s b d first i last k
 Holds (Call.dimensionFirst s b first first′ h) k = FirstWay s b first k
 Holds (Call.search vc s es b e limit w w′ z z′ h) k = SearchWay s es vc b e limit k
+Holds (Call.mark es m x x′ l h) k = MarkWay es m x l k
+Holds (Call.close m x x′ l l′ h) k = CloseWay m x l k
+Holds (Call.constraintPool s ids w vc c o o′ z z′ h) k = ExtendWay s w (asking ids (members w) vc c) (length o) k
 Holds (Call.mapSection rs rs′ ss ss′ ds ds′ ps ps′ ws ws′ h) k = SectionWay rs (length ss) (length ds) (length ps) (length ws) k
 
 -- ── the proof ────────────────────────────────────────────────────────────────
@@ -110,6 +123,9 @@ rows (Call.query s b first i last first′ i′ last′ h) k = told (h .0) (h .2
 rows (Call.dimension s b d first i last first′ i′ last′ h) k = told (h .0) (h .2) (of-dimension s b d first i last (h .0) (h .1) k)
 rows (Call.dimensionFirst s b first first′ h) k = told (h .0) (h .2) (of-dimension-first s b firstDimX first (h .0) (h .1) k)
 rows (Call.search vc s es b e limit w w′ z z′ h) k = told (h vc .0) (h vc .2) (of-search s es vc b e limit (h vc .0) (h vc .1) k)
+rows (Call.mark es m x x′ l h) k = told (h .0) (h .2) (of-mark es m x l (h .0) (h .1) k)
+rows (Call.close m x x′ l l′ h) k = told (h .0) (h .2) (of-close m x l (h .0) (h .1) k)
+rows (Call.constraintPool s ids w vc c o o′ z z′ h) k = told (h .answer) (h .number) (of-extend s w (asking ids (members w) vc c) (length o) (h .answer) (h .runs) k)
 rows (Call.mapSection rs rs′ ss ss′ ds ds′ ps ps′ ws ws′ h) k = told (recordsMapping rs (length ss) (length ds) (length ps) (length ws)) (h .says) (of-section rs (length ss) (length ds) (length ps) (length ws) k)
 
 -- EVERY CALL HAS A ROW, and no call has two

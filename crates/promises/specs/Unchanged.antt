@@ -34,6 +34,10 @@ use Rattle.host.specs.Runs.{RunNumbered, totalsTold}
 use Rattle.host.specs.Maps.{MapNumbered}
 use Rattle.host.specs.Plans.{WalkNumbered, WalkCounted}
 use Rattle.host.specs.Searches.{SearchNumbered, choiceTold}
+use Rattle.constraint_pool.specs.declared.judge.Columns.{Columns}
+use Rattle.constraint_pieces.specs.Marking.{StandsMarked}
+use Rattle.constraint_frames.specs.Extension.{Extension, roomAfter}
+use Rattle.constraint_host.specs.Numbered.{MarkNumbered, CloseNumbered, PoolNumbered, numbersTold}
 use Rattle.promises.specs.Contracts.{QueryNumbered, DimensionNumbered, FirstNumbered, nthOf}
 
 -- 0, or the number of a refusal
@@ -222,3 +226,33 @@ module _ (s es : List ℕ) (b e limit : ℕ) (w z : List ℕ) {w′ z′ : List 
   unchanged-search y =
       let r = is-refused (h 0 .0) (h 0 .2) y in
       (subst (λ (a : Answer Choice). SetAfter a w w′) (r .2) (h 0 .3), h 0 .5 ∙ ap (λ (a : Answer Choice). choiceTold a z) (r .2))
+
+-- ── the pieces of the constraint ─────────────────────────────────────────────
+module _ (es : List ℕ) (m : ℕ) (x l : List ℕ) {x′ : List ℕ} {n : ℕ} (h : MarkNumbered es m x x′ l n) where
+  -- enonkasse_mark
+  pub answered-mark : Answered n
+  answered-mark = numbered (h .0) (h .2)
+
+  -- refused, the context is what it was
+  pub unchanged-mark : (n ≡ 0 → ⊥) → x′ ≡ x
+  unchanged-mark z = let r = is-refused (h .0) (h .2) z in subst (λ (a : Answer Said). StandsMarked es a x x′) (r .2) (h .3)
+
+module _ (m : ℕ) (x l : List ℕ) {x′ l′ : List ℕ} {n : ℕ} (h : CloseNumbered m x x′ l l′ n) where
+  -- enonkasse_close
+  pub answered-close : Answered n
+  answered-close = numbered (h .0) (h .2)
+
+  -- refused, the context and the list are what they were
+  pub unchanged-close : (n ≡ 0 → ⊥) → (x′ ≡ x) × (l′ ≡ l)
+  unchanged-close z = let r = is-refused (h .0) (h .2) z in subst (λ (a : Answer Said). Stands a x l x′ l′) (r .2) (h .3)
+
+module _ (s ids w : List ℕ) (vc : ℕ) (c : Columns) (o z : List ℕ) {o′ z′ : List ℕ} {n : ℕ} (h : PoolNumbered s ids w vc c o o′ z z′ n) where
+  -- enonkasse_constraint_pool
+  pub answered-constraint-pool : Answered n
+  answered-constraint-pool = numbered (h .answer) (h .number)
+
+  -- refused, the room and the numbers are what they were
+  pub unchanged-constraint-pool : (n ≡ 0 → ⊥) → (o′ ≡ o) × (z′ ≡ z)
+  unchanged-constraint-pool y =
+      let r = is-refused (h .answer) (h .number) y in
+      (h .room ∙ ap (roomAfter o) (r .2), h .told ∙ ap (λ (a : Answer Extension). numbersTold (a then λ x. done (x .numbers)) z) (r .2))
