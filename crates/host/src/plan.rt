@@ -16,16 +16,10 @@ use plan_walks::query::query;
 use plan_walks::walk::Walk;
 use planning::answer::Unplanned;
 ghost use mathlib.Core.Path.{_≡_};
-ghost use mathlib.Core.List.{[], _∷_};
 ghost use Rattle.meaning.specs.Refusals.{answerNo};
-ghost use Rattle.lists.specs.Records.{goodList};
-ghost use Rattle.lent_lists.specs.Records.{goodLists};
-ghost use Rattle.dimensions.specs.Answers.{firstDimX};
 ghost use Rattle.plan_walks.specs.Walks.{walkSays};
-ghost use Rattle.plan_walks.specs.Query.{queryBy};
-ghost use Rattle.plan_walks.specs.Dimension.{dimensionBy};
 ghost use Rattle.host.specs.Numbered.{cellsTold};
-ghost use Rattle.host.specs.Plans.{unplannedAs, WalkNumbered, WalkCounted};
+ghost use Rattle.host.specs.Plans.{unplannedAs, QueryNumbered, DimensionNumbered, FirstNumbered, WalkCounted};
 
 pub fn unplanned_number(u: Unplanned) -> u8
     ensures { λ n. ⌜ n ≡ answerNo (unplannedAs u) ⌝ }
@@ -101,7 +95,7 @@ pub extern "C" fn enonkasse_query(
     i: &mut [u8],
     last: &mut [u8],
 ) -> u8
-    ensures { λ r. ⌜ WalkNumbered (now (frames .entry)) (now (plan .entry)) (goodLists (now (first .entry)) (now (i .entry)) (now (last .entry))) (queryBy (now (first .entry)) (now (i .entry)) (now (last .entry))) (now (first .entry) ∷ now (i .entry) ∷ now (last .entry) ∷ []) (now (first .exit) ∷ now (i .exit) ∷ now (last .exit) ∷ []) r ⌝ }
+    ensures { λ r. ⌜ QueryNumbered (now (frames .entry)) (now (plan .entry)) (now (first .entry)) (now (i .entry)) (now (last .entry)) (now (first .exit)) (now (i .exit)) (now (last .exit)) r ⌝ }
 {
     walk_number(query(frames, plan, first, i, last))
 }
@@ -116,7 +110,7 @@ pub extern "C" fn enonkasse_dimension(
     i: &mut [u8],
     last: &mut [u8],
 ) -> u8
-    ensures { λ r. ⌜ WalkNumbered (now (frames .entry)) (now (plan .entry)) (goodLists (now (first .entry)) (now (i .entry)) (now (last .entry))) (dimensionBy «dim_x» (now (first .entry) ∷ now (i .entry) ∷ now (last .entry) ∷ []) (now (plan .entry))) (now (first .entry) ∷ now (i .entry) ∷ now (last .entry) ∷ []) (now (first .exit) ∷ now (i .exit) ∷ now (last .exit) ∷ []) r ⌝ }
+    ensures { λ r. ⌜ DimensionNumbered (now (frames .entry)) (now (plan .entry)) «dim_x» (now (first .entry)) (now (i .entry)) (now (last .entry)) (now (first .exit)) (now (i .exit)) (now (last .exit)) r ⌝ }
 {
     walk_number(dimension(frames, plan, dim_x, first, i, last))
 }
@@ -124,7 +118,7 @@ pub extern "C" fn enonkasse_dimension(
 // The same for a first list alone, where the x kinds have dimension 3.
 #[no_mangle]
 pub extern "C" fn enonkasse_dimension_first(frames: &[u8], plan: &[u8], first: &mut [u8]) -> u8
-    ensures { λ r. ⌜ WalkNumbered (now (frames .entry)) (now (plan .entry)) (goodList (now (first .entry))) (dimensionBy firstDimX (now (first .entry) ∷ []) (now (plan .entry))) (now (first .entry) ∷ []) (now (first .exit) ∷ []) r ⌝ }
+    ensures { λ r. ⌜ FirstNumbered (now (frames .entry)) (now (plan .entry)) (now (first .entry)) (now (first .exit)) r ⌝ }
 {
     walk_number(dimension_first(frames, plan, first))
 }

@@ -1,5 +1,5 @@
 -- The page that an auditor reads: statements about the exported functions, each a citation or a short corollary.
-pub mod Contracts
+pub mod OneList
 pub mod OneOutcome
 pub mod Unchanged
 pub mod Rows

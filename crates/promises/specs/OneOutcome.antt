@@ -36,7 +36,7 @@ use Rattle.records.specs.declared.PolType.{PolType}
 use Rattle.host.specs.Numbered.{FreshNumbered, ServeNumbered, BuildNumbered, EvaluateNumbered, sizesTold, cellsTold}
 use Rattle.host.specs.Runs.{RunNumbered, totalsTold}
 use Rattle.host.specs.Maps.{MapNumbered}
-use Rattle.host.specs.Plans.{WalkNumbered, WalkCounted}
+use Rattle.host.specs.Plans.{WalkNumbered, WalkCounted, QueryNumbered, DimensionNumbered, FirstNumbered}
 use Rattle.host.specs.Searches.{SearchNumbered, setIs, choiceTold}
 use Rattle.sets.specs.Members.{members}
 use Rattle.constraint_pool.specs.declared.judge.Columns.{Columns}
@@ -46,8 +46,8 @@ use Rattle.constraint_frames.specs.Extension.{Extension, roomAfter}
 use Rattle.constraint_frames.specs.Unique as constraint
 use Rattle.constraint_host.specs.Numbered.{MarkNumbered, CloseNumbered, PoolNumbered, numbersTold}
 use Rattle.constraint_host.specs.Exactly.{one-marked, one-closed}
-use Rattle.promises.specs.Contracts.{QueryNumbered, DimensionNumbered, FirstNumbered, nthOf}
 use Rattle.answers.specs.ListBytes.{one-list}
+use Rattle.promises.specs.OneList.{nthOf}
 
 -- ── generation ───────────────────────────────────────────────────────────────
 -- enonkasse_fresh: the number and the context

@@ -34,7 +34,7 @@ use Rattle.records.specs.declared.PolType.{PolType}
 use Rattle.host.specs.Numbered.{FreshNumbered, ServeNumbered, BuildNumbered, EvaluateNumbered}
 use Rattle.host.specs.Runs.{RunNumbered}
 use Rattle.host.specs.Maps.{MapNumbered}
-use Rattle.host.specs.Plans.{WalkCounted}
+use Rattle.host.specs.Plans.{WalkCounted, QueryNumbered, DimensionNumbered, FirstNumbered}
 use Rattle.host.specs.Searches.{SearchNumbered}
 use Rattle.sets.specs.Members.{members}
 use Rattle.constraint_pool.specs.declared.judge.Columns.{Columns}
@@ -42,7 +42,6 @@ use Rattle.constraint_frames.specs.Extension.{asking}
 use Rattle.constraint_host.specs.Numbered.{MarkNumbered, CloseNumbered, PoolNumbered}
 use Rattle.answers.specs.ConstraintWays.{MarkWay, CloseWay, ExtendWay}
 use Rattle.answers.specs.ExactConstraint.{of-mark, of-close, of-extend}
-use Rattle.promises.specs.Contracts.{QueryNumbered, DimensionNumbered, FirstNumbered}
 use Rattle.answers.specs.Ways.{FreshWay, ServeWay, BuildWay, RunWay, EvaluateWay, MapWay, FixWay, QueryWay, DimensionWay, FirstWay, SearchWay, SectionWay}
 use Rattle.answers.specs.Exact.{of-serve, of-build, of-run, of-evaluate, of-search}
 use Rattle.answers.specs.ExactPlans.{of-map, of-fix, of-query, of-dimension, of-dimension-first, of-section}

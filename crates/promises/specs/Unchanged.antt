@@ -32,13 +32,13 @@ use Rattle.records.specs.declared.PolType.{PolType}
 use Rattle.host.specs.Numbered.{FreshNumbered, ServeNumbered, BuildNumbered, EvaluateNumbered, sizesTold, cellsTold}
 use Rattle.host.specs.Runs.{RunNumbered, totalsTold}
 use Rattle.host.specs.Maps.{MapNumbered}
-use Rattle.host.specs.Plans.{WalkNumbered, WalkCounted}
+use Rattle.host.specs.Plans.{WalkNumbered, WalkCounted, QueryNumbered, DimensionNumbered, FirstNumbered}
 use Rattle.host.specs.Searches.{SearchNumbered, choiceTold}
 use Rattle.constraint_pool.specs.declared.judge.Columns.{Columns}
 use Rattle.constraint_pieces.specs.Marking.{StandsMarked}
 use Rattle.constraint_frames.specs.Extension.{Extension, roomAfter}
 use Rattle.constraint_host.specs.Numbered.{MarkNumbered, CloseNumbered, PoolNumbered, numbersTold}
-use Rattle.promises.specs.Contracts.{QueryNumbered, DimensionNumbered, FirstNumbered, nthOf}
+use Rattle.promises.specs.OneList.{nthOf}
 
 -- 0, or the number of a refusal
 abbrev pub Answered : ℕ → Type 0
