@@ -1,12 +1,14 @@
 #!/usr/bin/env bash
-# Writes target/staticlib/libhost.a with all exported functions: those of the crate host, and that of the crate records. `rt staticlib` gives the exported
-# functions of one crate, and none of a crate below it; either archive is one object, which defines no other name, so that the two stand side by side.
+# Writes target/staticlib/libhost.a with all exported functions, those of each crate below. `rt staticlib` gives the exported functions of one crate, and
+# none of a crate that it stands on; each archive is one object, which defines no other name, so that they stand side by side.
 set -euo pipefail
 cd "$(dirname "$0")/.."
 
+# host-rs/sys/build.rs looks for the object of the last one.
+others=(records)
+
 rt staticlib host
-rt staticlib records
-cd target/staticlib
-ar x librecords.a records.o
-ar rs libhost.a records.o
-rm records.o
+for crate in "${others[@]}"; do
+    rt staticlib "$crate"
+    (cd target/staticlib && ar x "lib$crate.a" "$crate.o" && ar rs libhost.a "$crate.o" && rm "$crate.o")
+done
