@@ -1,17 +1,14 @@
 #!/usr/bin/env bash
-# Writes target/staticlib/libhost.a with all exported functions: those of the crate host, and those of the crates beside it. `rt staticlib` gives the exported
-# functions of one crate, and none of a crate below it; each archive is one object, which defines no other name, so that they stand side by side.
+# Writes target/staticlib/libhost.a with all exported functions, those of each crate below. `rt staticlib` gives the exported functions of one crate, and
+# none of a crate that it stands on; each archive is one object, which defines no other name, so that they stand side by side.
 set -euo pipefail
 cd "$(dirname "$0")/.."
 
-beside="constraint_host records"
+# host-rs/sys/build.rs looks for the object of the last one.
+others=(constraint_host records)
 
-for crate in host $beside; do
+rt staticlib host
+for crate in "${others[@]}"; do
     rt staticlib "$crate"
-done
-cd target/staticlib
-for crate in $beside; do
-    ar x "lib$crate.a" "$crate.o"
-    ar rs libhost.a "$crate.o"
-    rm "$crate.o"
+    (cd target/staticlib && ar x "lib$crate.a" "$crate.o" && ar rs libhost.a "$crate.o" && rm "$crate.o")
 done

@@ -195,8 +195,12 @@ mod tests {
         let random = &mut Random::new(1, 1);
         for export in Export::ALL {
             let lent = good.lent_to(export);
+            // Of an empty slice there is nothing to take away.
+            let is_short = lent.bytes.iter().any(Vec::is_empty);
             for input in [Input::Changed, Input::Short, Input::Random] {
-                assert_ne!(input.made_of(export, [good, other], random), lent, "{:?}", export);
+                let differs = input.made_of(export, [good, other], random) != lent;
+                let may_stay = matches!(input, Input::Short) && is_short;
+                assert!(differs || may_stay, "{:?}, {:?}", export, input);
             }
         }
     }
