@@ -1,0 +1,2 @@
+-- Lemmas over plain variables, which the functions' proofs cite.
+pub mod Numbers

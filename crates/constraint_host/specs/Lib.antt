@@ -1,0 +1,3 @@
+-- The definitions that the contracts cite, and the theorems on them.
+pub mod Numbered
+pub mod Exactly
