@@ -50,14 +50,14 @@ unless-passed r true e = refl
 unless-passed r false e = absurd (done-not-refused (sym e))
 
 -- what comes before a value is refused alike
-then-refused : {A : Type 0} (v : Answer (Unit {0})) (k : A) {r : Refusal} {o : Option ℕ} → refused r o ≡ (v then λ _. done k) → v ≡ refused r o
+pub then-refused : {A : Type 0} (v : Answer (Unit {0})) (k : A) {r : Refusal} {o : Option ℕ} → refused r o ≡ (v then λ _. done k) → v ≡ refused r o
 then-refused (done tt) k e = absurd (done-not-refused (sym e))
 then-refused (refused s i) k {r} {o} e =
     let a : s ≡ r = cc in
     let b : i ≡ o = cc in
     rw (a, b)
 
-then-passed : {A : Type 0} (v : Answer (Unit {0})) (k : A) {a : A} → done a ≡ (v then λ _. done k) → v ≡ done tt
+pub then-passed : {A : Type 0} (v : Answer (Unit {0})) (k : A) {a : A} → done a ≡ (v then λ _. done k) → v ≡ done tt
 then-passed (done tt) k e = refl
 then-passed (refused s i) k e = absurd (done-not-refused e)
 

@@ -36,7 +36,7 @@ all-append : {A : Type 0} (P : A → Type 0) (xs ys : List A) → All P xs → A
 all-append P [] ys a b = b
 all-append P (x ∷ xs) ys (oneMore p a) b = oneMore p (all-append P xs ys a b)
 
-all-at : (xs : List Node) → All WellNode xs → (k : ℕ) → k < length xs → WellNode (at-of xs k)
+pub all-at : (xs : List Node) → All WellNode xs → (k : ℕ) → k < length xs → WellNode (at-of xs k)
 all-at [] a k h = absurd (not-suc-le-zero h)
 all-at (x ∷ xs) (oneMore p a) zero h = p
 all-at (x ∷ xs) (oneMore p a) (suc k) h = all-at xs a k (le-of-suc-le-suc h)

@@ -1,0 +1,157 @@
+-- What was read, judged: both contexts, the pool, and the answer to an admitted one. Over plain variables.
+-- Assumes nothing.
+use Prim.Native.Nat.{ℕ, _≤_, _<_}
+use mathlib.Core.Path.{_≡_, refl, sym, _∙_, ap, subst}
+use mathlib.Core.Bool.{Bool, true, false}
+use mathlib.Core.Option.{Option, none}
+use mathlib.Core.List.{List, []}
+use lib.ListN.{length}
+use Rattle.meaning.specs.Refusals.{Refusal, Answer, done, refused, _then_}
+use Rattle.meaning.specs.Laws.Tests.{done-same, done-not-refused}
+use Rattle.frames.specs.Order.{Input, blameAnswer}
+use Rattle.frames.specs.Tables as frames
+use Rattle.frames.specs.Tables.{inputIn}
+use Rattle.frames.specs.Reading.{reading, held, Fills}
+use Rattle.frames.specs.Limits.{read-within}
+use Rattle.frames.specs.Written.{WellFormed}
+use Rattle.frames.specs.declared.count.Counts.{Counts}
+use Rattle.frames.specs.declared.count.Blame.{Blame}
+use Rattle.frames.specs.declared.count.Reading.{Reading}
+use Rattle.frames.specs.declared.count.Reading.the-variants as was
+use Rattle.pool.specs.Pool.{Pool}
+use Rattle.pool.specs.Trees.{forest}
+use Rattle.pool.specs.Shaped.{Shaped}
+use Rattle.pool.specs.Verdict.{Verdict}
+use Rattle.pool.specs.Exactly.{exactly-0}
+use Rattle.pool.specs.Admitting.{Admits, Fits, verdictSays}
+use Rattle.pool.specs.declared.admit.Admission.{Admission}
+use Rattle.pool.specs.declared.admit.Verdict as admit
+use Rattle.pool.specs.Tabled.{tabled}
+use Rattle.pool.specs.Ranking.{Tabling}
+use Rattle.pool.specs.Numbered.{poolOf}
+use Rattle.pool.specs.Laws.Tabled.{expression-count}
+use Rattle.degree_search.proofs.Questions.{judged-as}
+use Rattle.context.specs.Context as context
+use Rattle.context.specs.Context.{Exactly}
+use Rattle.constraint_meaning.specs.Constraint.{Asked}
+use Rattle.pool_frames.specs.Writable.{read-formed}
+use Rattle.constraint_frames.specs.Formed.{inputOf}
+use Rattle.constraint_frames.specs.Backward.{shaped-few}
+use Rattle.constraint_build.specs.Both.{Lent}
+use Rattle.starkinfo_cp_prover.specs.Polynomial.{Polynomial, generating, OrMalformed, Answers, Runs, generatedSays, Tells, GeneratedIs, AdmittedAsks, ReadAsks}
+use Rattle.starkinfo_cp_prover.specs.declared.answer.Generated.{Generated}
+use Rattle.starkinfo_cp_prover.specs.declared.answer.Generated.the-variants as told
+use Rattle.starkinfo_cp_prover.proofs.Founds.{refused-as}
+
+module _ {w l x : List ℕ} {k : Counts} (a : ReadAsks w l x k) (q : Asked) (u v : Lent) (out t : List ℕ) where
+  abbrev P : Pool
+  P = tabled (Tabling w l x (k .nodes) (k .expressions))
+
+  -- what was read is answered so, and everything lent after it
+  abbrev Told : Lent → Lent → List ℕ → List ℕ → Generated → Type 0
+  Told u′ v′ out′ t′ r = (z : Answer Polynomial) × Answers P q u v (length out) z × Tells z u v out t u′ v′ out′ t′ r
+
+  expressions-are : length (P .expressions) ≡ k .expressions
+  expressions-are = expression-count (Tabling w l x (k .nodes) (k .expressions))
+
+  pub admit-fits : Fits [] (k .nodes) (k .expressions)
+  admit-fits = record { nodes = a .nodes; expressions = a .expressions; tabulated = λ u z. absurd z }
+
+  -- of the pool's own number of expressions
+  own : {g : Bool} {y : List ℕ} {room : ℕ} → Exactly g (context.Good y (k .expressions) room) → Exactly g (context.Good y (length (P .expressions)) room)
+  own {g} {y} {room} h = subst (λ i. Exactly g (context.Good y i room)) (sym expressions-are) h
+
+  module _ {g : Bool} (gh : Exactly g (context.Good (u .context) (k .expressions) (length (u .list)))) where
+    orMalformed : (b : Bool) → g ≡ b → (z : Answer Polynomial) (R : Type 0) → OrMalformed b z R → OrMalformed g z R
+    orMalformed b e z R h = subst (λ c. OrMalformed c z R) (sym e) h
+
+    pub bad-first : g ≡ false → Told u v out t told.BadContext
+    bad-first e = (refused Refusal.malformed none, (g, own gh, orMalformed false e _ _ refl), record { says = refl; stands = (refl, refl, refl, refl) })
+
+    module _ (ge : g ≡ true) {h : Bool} (hh : Exactly h (context.Good (v .context) (k .expressions) (length (v .list)))) where
+      rest : (z : Answer Polynomial) (b : Bool) → h ≡ b → OrMalformed b z ((y : Answer (Unit {0})) × Verdict P [] y × (z ≡ (y then λ _. generating P q u v (length out)))) → Answers P q u v (length out) z
+      rest z b e o =
+          (g, own gh, orMalformed true ge z _ (h, own hh, subst (λ c. OrMalformed c z ((y : Answer (Unit {0})) × Verdict P [] y × (z ≡ (y then λ _. generating P q u v (length out))))) (sym e) o))
+
+      pub bad-second : h ≡ false → Told u v out t told.BadContext
+      bad-second e = (refused Refusal.malformed none, rest _ false e refl, record { says = refl; stands = (refl, refl, refl, refl) })
+
+      module _ (he : h ≡ true) where
+        pub judged : {y : List ℕ} {d : Admission} → Admits (Tabling w l x (k .nodes) (k .expressions)) y d → y ≡ [] → {o : admit.Verdict} → d .verdict ≡ o → Verdict P [] (verdictSays o)
+        judged = judged-as w x k (record { nodes = a .nodes; expressions = a .expressions }) l
+
+        pub refused-pool : {r : Refusal} {o : Option ℕ} → Verdict P [] (refused r o) → (d : Generated) → generatedSays d ≡ refused r o → Told u v out t d
+        refused-pool {r} {o} y d f = (refused r o, rest _ true he (refused r o, y, refl), record { says = f; stands = (refl, refl, refl, refl) })
+
+        module _ (y : Verdict P [] (done tt)) where
+          pub admitted-asks : AdmittedAsks w l x u v (k .nodes) (k .expressions)
+          admitted-asks =
+              let s = exactly-0 P (done tt) y .0 refl in
+              record {
+                shaped = s .0;
+                acyclic = s .1;
+                formed = a .formed (s .0);
+                nodes = a .nodes;
+                expressions = a .expressions;
+                wide = a .wide;
+                good = gh .0 ge;
+                good-2ns = hh .0 he;
+              }
+
+          pub admitted : {u′ v′ : Lent} {out′ t′ : List ℕ} {r : Generated} → Tells (generating P q u v (length out)) u v out t u′ v′ out′ t′ r → Told u′ v′ out′ t′ r
+          admitted h = (generating P q u v (length out), rest _ true he (done tt, y, refl), h)
+
+-- ---- of what was read
+
+module _ {s : List ℕ} {f : frames.Tables} {r : Reading} (fills : Fills s r f) (q : Asked) (u v : Lent) (out t : List ℕ) where
+  unread : {k : Refusal} {o : Option ℕ} {d : Generated} → refused k o ≡ reading s → generatedSays d ≡ refused k o → GeneratedIs s q u v out t u v out t d
+  unread {k} {o} {d} h g =
+      record {
+        answer = refused k o;
+        runs = record { unread = λ k o e. refused-as (h ∙ e); judged = λ i e. absurd (done-not-refused (sym e ∙ sym h)) };
+        tells = record { says = g; stands = (refl, refl, refl, refl) };
+      }
+
+  pub malformed : {b : Blame} → r ≡ was.Malformed b → GeneratedIs s q u v out t u v out t (told.Malformed b)
+  malformed e = unread (ap (held f) (sym e) ∙ fills .answer) refl
+
+  pub limit : {b : Blame} → r ≡ was.Full b → GeneratedIs s q u v out t u v out t (told.Limit b)
+  limit e = unread (ap (held f) (sym e) ∙ fills .answer) refl
+
+  module _ {k : Counts} (e : r ≡ was.Read k) where
+    read-is : done (inputIn f k) ≡ reading s
+    read-is = ap (held f) (sym e) ∙ fills .answer
+
+    abbrev R : Pool
+    R = tabled (Tabling (f .nodes) (f .literals) (f .expressions) (k .nodes) (k .expressions))
+
+    pool-is : poolOf (inputIn f k) ≡ R
+    unfolding inputIn tabled
+    pool-is = refl
+
+    formed : Shaped R → WellFormed (inputOf R)
+    unfolding inputIn tabled
+    formed a = read-formed s (inputIn f k) (sym read-is) (shaped-few R a)
+
+    pub read-asks : ReadAsks (f .nodes) (f .literals) (f .expressions) k
+    read-asks =
+        let z = read-within s f k read-is in
+        record {
+          nodes = z .nodes;
+          expressions = z .expressions;
+          wide = record { nodes = fills .sized .nodes; literals = fills .sized .literals; expressions = fills .sized .expressions };
+          formed = formed;
+        }
+
+    pub read :
+        {u′ v′ : Lent} {out′ t′ : List ℕ} {d : Generated} → (z : Answer Polynomial) × Answers R q u v (length out) z × Tells z u v out t u′ v′ out′ t′ d →
+        GeneratedIs s q u v out t u′ v′ out′ t′ d
+    read g =
+        record {
+          answer = g .0;
+          runs = record {
+            unread = λ k o z. absurd (done-not-refused (read-is ∙ z));
+            judged = λ i z. subst (λ p. Answers p q u v (length out) (g .0)) (sym pool-is ∙ ap poolOf (done-same _ _ (read-is ∙ z))) (g .1);
+          };
+          tells = g .2;
+        }
