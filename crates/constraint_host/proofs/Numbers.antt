@@ -13,6 +13,11 @@ use Rattle.constraint_pieces.specs.declared.mark.Marking.{Marking}
 use Rattle.constraint_pieces.specs.declared.close.Closing.{Closing}
 use Rattle.constraint_frames.specs.Extension.{Extension, constrainedSays, ConstrainGiven}
 use Rattle.constraint_frames.specs.declared.answer.Constrained.{Constrained}
+use Rattle.constraint_meaning.specs.Constraint.{Asked}
+use Rattle.constraint_build.specs.Both.{Lent}
+use Rattle.starkinfo_cp_prover.specs.Polynomial.{Polynomial, toldOf, generatedSays, GeneratedIs}
+use Rattle.starkinfo_cp_prover.specs.declared.answer.Generated.{Generated}
+use Rattle.constraint_host.specs.Whole.{foundTold, totalsTold, ConstraintNumbered}
 use Rattle.constraint_host.specs.Numbered.{MarkNumbered, CloseNumbered, numbersTold, PoolNumbered}
 
 same-outcome : {A : Type 0} (a : Answer A) → answerNo (outcome a) ≡ answerNo a
@@ -42,4 +47,17 @@ pool-numbered s ids w vc c o o′ z z′ r n g e h =
       room = g .tells .room;
       told = h ∙ ap (λ t. numbersTold t z) (g .tells .says);
       back = g .back;
+    }
+
+pub constraint-numbered :
+    (s : List ℕ) (a : Asked) (u v : Lent) (o w f z : List ℕ) (u′ v′ : Lent) (o′ w′ f′ z′ : List ℕ) (r : Generated) (n : ℕ) → GeneratedIs s a u v o w u′ v′ o′ w′ r →
+    n ≡ answerNo (generatedSays r) → f′ ≡ foundTold (generatedSays r) f → z′ ≡ totalsTold (generatedSays r) z → ConstraintNumbered s a u v o w f z u′ v′ o′ w′ f′ z′ n
+constraint-numbered s a u v o w f z u′ v′ o′ w′ f′ z′ r n g e h k =
+    record {
+      answer = g .answer;
+      runs = g .runs;
+      number = e ∙ ap answerNo (g .tells .says) ∙ same-then (g .answer) toldOf;
+      stands = g .tells .stands;
+      found = h ∙ ap (λ t. foundTold t f) (g .tells .says);
+      totals = k ∙ ap (λ t. totalsTold t z) (g .tells .says);
     }

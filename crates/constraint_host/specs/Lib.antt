@@ -1,3 +1,4 @@
 -- What the exported functions' contracts cite, and what they say.
 pub mod Numbered
+pub mod Whole
 pub mod Exactly
