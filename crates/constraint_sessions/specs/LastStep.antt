@@ -29,7 +29,7 @@ use Rattle.constraint_lists.specs.Lists.{step42nsSaid, Written}
 use Rattle.constraint_sessions.specs.Stood.{Stood, step42ns-stood}
 
 -- no mark beyond the pool that a context is good for
-unmarked : (x l : List ℕ) (m room : ℕ) → m < 512 → Good x m room → said x l .marks m 0 ≡ false
+pub unmarked : (x l : List ℕ) (m room : ℕ) → m < 512 → Good x m room → said x l .marks m 0 ≡ false
 unfolding marksOf
 unmarked x l m room few g =
     let c = cellOf m 0 in

@@ -67,6 +67,12 @@ module _ (E : Forest) (small : length E ≤ expressionLimit) (x l : List ℕ) (s
     step3-refused k i h =
         ap (λ (z : Answer State). z then λ u. done (builtFrom 2 E u)) (of-refused saidOf (serveAll 2 E (plainRequests members) st) k i (sym said3 ∙ h))
 
+    -- before anything is written
+    pub step3-done : (s : Said) → step3Said E members (said x l) ≡ done s → (b : Built) × (step3 2 E members st ≡ done b)
+    step3-done s h =
+        let z = of-done saidOf (serveAll 2 E (plainRequests members) st) s (sym said3 ∙ h) in
+        (builtFrom 2 E (z .0), ap (λ (y : Answer State). y then λ u. done (builtFrom 2 E u)) (z .1))
+
     pub step3-stood :
         (s : Said) → step3Said E members (said x l) ≡ done s → (o : Lists) (x′ l′ : List ℕ) (o′ : Lists) → Written E x l o s x′ l′ o′ →
         (b : Built) × (step3 2 E members st ≡ done b) × Stood o b x′ l′ o′
