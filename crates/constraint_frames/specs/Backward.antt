@@ -110,6 +110,34 @@ accepted p w q room z e h y = by (setGood (length (p .expressions)) w) refl h
 
 -- ---- the pool that stood in tables
 
+-- with room for the constraint
+module _ (w l x ids ms : List ℕ) (n m vc : ℕ) (v : vc < 65536) (c : Columns) (asks : ConstraintAsks w l x ids ms vc (c .commitments) n m) where
+  abbrev R : Pool
+  R = tabled (Tabling w l x n m)
+
+  nodes-in : length (R .nodes) ≡ n
+  nodes-in = node-count (Tabling w l x n m)
+
+  expressions-in : length (R .expressions) ≡ m
+  expressions-in = expression-count (Tabling w l x n m)
+
+  pub back-asks : WellFormed (inputOf R) → Acyclic (forest R) → Back R (asking ids ms vc c)
+  back-asks formed acyclic =
+      record {
+        read =
+            read-back (inputOf (poolWith R (asking ids ms vc c)))
+            (constraint-formed R (asks .shaped) formed vc (c .commitments) (getD ids 0 0) (drop 1 ids) ms (rw expressions-in (asks .members))
+            (rw nodes-in (asks .room)) (rw expressions-in (asks .few)));
+        shaped = added-shaped asks v;
+        acyclic = added-acyclic asks v acyclic;
+        forest-is =
+            added-forest asks v
+            ∙ ap (λ k. extended (forest R) k)
+            (ap (λ t. t .tree) (sym (tree-for (forest R) n vc ids (columnsFrom (c .commitments) ms)))
+            ∙ ap (λ k. treeFor (forest R) k vc ids (columnsFrom (c .commitments) ms) .tree) (sym nodes-in));
+      }
+
+-- and by its answer
 module _ (w l x ids s : List ℕ) (n m vc : ℕ) (v : vc < 65536) (c : Columns) (room : ℕ) where
   abbrev P : Pool
   P = tabled (Tabling w l x n m)
@@ -147,17 +175,4 @@ module _ (w l x ids s : List ℕ) (n m vc : ℕ) (v : vc < 65536) (c : Columns) 
         c vc identities-there (sym (ap (λ k. judged (forest P) k vc c ids (members s)) (sym nodes-are) ∙ ways .fine))
 
     pub back-tables : Back P Q
-    back-tables =
-        record {
-          read =
-              read-back (inputOf (poolWith P Q))
-              (constraint-formed P (admitted .0) formed vc (c .commitments) (getD ids 0 0) (drop 1 ids) (members s) (rw expressions-are chosen-there)
-              (rw nodes-are (asks .room)) (rw expressions-are (asks .few)));
-          shaped = added-shaped asks v;
-          acyclic = added-acyclic asks v (admitted .1);
-          forest-is =
-              added-forest asks v
-              ∙ ap (λ k. extended (forest P) k)
-              (ap (λ t. t .tree) (sym (tree-for (forest P) n vc ids (columnsFrom (c .commitments) (members s))))
-              ∙ ap (λ k. treeFor (forest P) k vc ids (columnsFrom (c .commitments) (members s)) .tree) (sym nodes-are));
-        }
+    back-tables = back-asks w l x ids (members s) n m vc v c asks formed (admitted .1)

@@ -29,19 +29,28 @@ use Rattle.pool.specs.declared.admit.Verdict as admit
 use Rattle.pool.specs.Tabled.{tabled}
 use Rattle.pool.specs.Ranking.{Tabling}
 use Rattle.pool.specs.Numbered.{poolOf}
-use Rattle.pool.specs.Laws.Tabled.{expression-count}
+use Rattle.pool.specs.Laws.Tabled.{node-count, expression-count}
+use Rattle.pool.specs.Laws.Forest.{forest-size}
 use Rattle.degree_search.proofs.Questions.{judged-as}
 use Rattle.context.specs.Context as context
 use Rattle.context.specs.Context.{Exactly}
 use Rattle.constraint_meaning.specs.Constraint.{Asked}
 use Rattle.pool_frames.specs.Writable.{read-formed}
 use Rattle.constraint_frames.specs.Formed.{inputOf}
-use Rattle.constraint_frames.specs.Backward.{shaped-few}
+use Rattle.constraint_meaning.specs.Members.{members-there, identities-there}
+use Rattle.constraint_pool.specs.Whole.{AllBelow}
+use Rattle.constraint_pool.specs.Sizes.{WholeSizeAsks}
+use Rattle.constraint_pool.specs.Judging.{judged as judged-by}
+use Rattle.constraint_pool.proofs.Verdicts.{constraint-asks}
+use Rattle.search_meaning.specs.Search.{Choice}
+use Rattle.constraint_frames.specs.Unique.{columnsOf}
+use Rattle.constraint_frames.specs.Extension.{Back}
+use Rattle.constraint_frames.specs.Backward.{shaped-few, back-asks}
 use Rattle.constraint_build.specs.Both.{Lent}
-use Rattle.starkinfo_cp_prover.specs.Polynomial.{Polynomial, generating, OrMalformed, Answers, Runs, generatedSays, Tells, GeneratedIs, AdmittedAsks, ReadAsks}
+use Rattle.starkinfo_cp_prover.specs.Polynomial.{Polynomial, questionOf, Accepts, generating, OrMalformed, Answers, Runs, generatedSays, Tells, GeneratedIs, AdmittedAsks, ReadAsks}
 use Rattle.starkinfo_cp_prover.specs.declared.answer.Generated.{Generated}
 use Rattle.starkinfo_cp_prover.specs.declared.answer.Generated.the-variants as told
-use Rattle.starkinfo_cp_prover.proofs.Founds.{refused-as}
+use Rattle.starkinfo_cp_prover.proofs.Founds.{refused-as, each-at, some-one}
 
 module _ {w l x : List ℕ} {k : Counts} (a : ReadAsks w l x k) (q : Asked) (u v : Lent) (out t : List ℕ) where
   abbrev P : Pool
@@ -103,13 +112,14 @@ module _ {w l x : List ℕ} {k : Counts} (a : ReadAsks w l x k) (q : Asked) (u v
 
 -- ---- of what was read
 
-module _ {s : List ℕ} {f : frames.Tables} {r : Reading} (fills : Fills s r f) (q : Asked) (u v : Lent) (out t : List ℕ) where
+module _ {s : List ℕ} {f : frames.Tables} {r : Reading} (fills : Fills s r f) (q : Asked) (v16 : q .vc < 65536) (u v : Lent) (out t : List ℕ) where
   unread : {k : Refusal} {o : Option ℕ} {d : Generated} → refused k o ≡ reading s → generatedSays d ≡ refused k o → GeneratedIs s q u v out t u v out t d
   unread {k} {o} {d} h g =
       record {
         answer = refused k o;
         runs = record { unread = λ k o e. refused-as (h ∙ e); judged = λ i e. absurd (done-not-refused (sym e ∙ sym h)) };
         tells = record { says = g; stands = (refl, refl, refl, refl) };
+        back = λ i e. absurd (done-not-refused (sym e ∙ sym h));
       }
 
   pub malformed : {b : Blame} → r ≡ was.Malformed b → GeneratedIs s q u v out t u v out t (told.Malformed b)
@@ -143,6 +153,21 @@ module _ {s : List ℕ} {f : frames.Tables} {r : Reading} (fills : Fills s r f) 
           formed = formed;
         }
 
+    back-in : Verdict R [] (done tt) → (x : Choice) → Accepts R q x → Back R (questionOf q x)
+    back-in y x o =
+        let a = exactly-0 R (done tt) y .0 refl in
+        let size : length (forest R) ≡ k .expressions = forest-size R ∙ expression-count (Tabling (f .nodes) (f .literals) (f .expressions) (k .nodes) (k .expressions)) in
+        let ids = subst (λ n. AllBelow n (q .identities)) size (each-at (length (forest R)) (q .identities) (identities-there (forest R) (q .limit) (q .identities) (q .vc) (q .nBits) (q .nBitsExt) x (o .chose))) in
+        let set = subst (λ n. AllBelow n (x .set)) size (each-at (length (forest R)) (x .set) (members-there (forest R) (q .limit) (q .identities) (q .vc) (q .nBits) (q .nBitsExt) x (o .chose))) in
+        let whole : WholeSizeAsks (f .nodes) (f .literals) (f .expressions) (q .identities) (x .set) (k .nodes) (k .expressions) = record {
+          members = record { shaped = a .0; nodes = read-asks .nodes; expressions = read-asks .expressions; there = set };
+          some = some-one (forest R) (q .identities) (q .vc) (q .nBits) (q .nBitsExt) (q .limit) x (o .chose);
+        } in
+        let fine : judged-by (forest R) (k .nodes) (q .vc) (columnsOf q (x .q)) (q .identities) (x .set) ≡ done tt =
+        ap (λ n. judged-by (forest R) n (q .vc) (columnsOf q (x .q)) (q .identities) (x .set)) (sym (node-count (Tabling (f .nodes) (f .literals) (f .expressions) (k .nodes) (k .expressions)))) ∙ o .fine in
+        back-asks (f .nodes) (f .literals) (f .expressions) (q .identities) (x .set) (k .nodes) (k .expressions) (q .vc) v16 (columnsOf q (x .q))
+        (constraint-asks whole (columnsOf q (x .q)) (q .vc) ids (sym fine)) (formed (a .0)) (a .1)
+
     pub read :
         {u′ v′ : Lent} {out′ t′ : List ℕ} {d : Generated} → (z : Answer Polynomial) × Answers R q u v (length out) z × Tells z u v out t u′ v′ out′ t′ d →
         GeneratedIs s q u v out t u′ v′ out′ t′ d
@@ -154,4 +179,7 @@ module _ {s : List ℕ} {f : frames.Tables} {r : Reading} (fills : Fills s r f) 
             judged = λ i z. subst (λ p. Answers p q u v (length out) (g .0)) (sym pool-is ∙ ap poolOf (done-same _ _ (read-is ∙ z))) (g .1);
           };
           tells = g .2;
+          back = λ i z y x o.
+              let e = sym pool-is ∙ ap poolOf (done-same _ _ (read-is ∙ z)) in
+              subst (λ p. Back p (questionOf q x)) e (back-in (subst (λ p. Verdict p [] (done tt)) (sym e) y) x (subst (λ p. Accepts p q x) (sym e) o));
         }

@@ -39,10 +39,15 @@ use Rattle.starkinfo_cp_prover.specs.declared.answer.Generated.{Generate
 
 -- ---- lists
 
-each-at : (m : ℕ) (es : List ℕ) → Each (λ e. e < m) es → AllBelow m es
+pub each-at : (m : ℕ) (es : List ℕ) → Each (λ e. e < m) es → AllBelow m es
 each-at m [] h k g = absurd (not-suc-le-zero g)
 each-at m (e ∷ es) h zero g = h .0
 each-at m (e ∷ es) h (suc k) g = each-at m es (h .1) k (le-of-suc-le-suc g)
+
+-- a search that chose had an identity
+pub some-one : (E : Forest) (ks : List ℕ) (vc n ext : ℕ) (limit : Option ℕ) (x : Choice) → search E ks vc n ext limit ≡ done x → 0 < length ks
+some-one E [] vc n ext limit x h = absurd (some-identity E limit vc n ext x h)
+some-one E (k ∷ ks) vc n ext limit x h = omega arith
 
 -- ---- what was chosen, told
 
@@ -114,10 +119,6 @@ module _ {w l x : List ℕ} {u v : Lent} {n m : ℕ} (a : AdmittedAsks w l x u v
       kept : Good s′
       kept = subst (λ z. SetAfter z s s′) chose (g .set)
 
-      some-one : (ks : List ℕ) → search (forest P) ks vc b e (some limit) ≡ done X → 0 < length ks
-      some-one [] h = absurd (some-identity (forest P) (some limit) vc b e X h)
-      some-one (k ∷ ks) h = omega arith
-
       pub chosen-asks : ChosenAsks w l x ids s′ u v n m
       chosen-asks = record {
         shaped = a .shaped;
@@ -125,7 +126,7 @@ module _ {w l x : List ℕ} {u v : Lent} {n m : ℕ} (a : AdmittedAsks w l x u v
         formed = a .formed;
         nodes = a .nodes;
         expressions = a .expressions;
-        some = some-one ids chose;
+        some = some-one (forest P) ids vc b e (some limit) X chose;
         identities = subst (λ k. AllBelow k ids) size-is (each-at (length (forest P)) ids (identities-there (forest P) (some limit) ids vc b e X chose));
         members = subst (λ k. AllBelow k (members s′)) size-is (each-at (length (forest P)) (members s′) (members-there (forest P) (some limit) ids vc b e X chose));
         wide = a .wide;

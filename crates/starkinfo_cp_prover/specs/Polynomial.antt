@@ -30,7 +30,7 @@ use Rattle.constraint_pool.specs.Whole.{AllBelow}
 use Rattle.constraint_pool.specs.Added.{Wide}
 use Rattle.constraint_pool.specs.declared.judge.Columns.{Columns}
 use Rattle.constraint_frames.specs.Formed.{inputOf}
-use Rattle.constraint_frames.specs.Extension.{Question, asking, poolWith}
+use Rattle.constraint_frames.specs.Extension.{Question, asking, poolWith, Back}
 use Rattle.constraint_frames.specs.Unique.{columnsOf}
 use Rattle.constraint_build.specs.Both.{Lent, Both, listing, madeSays, Totals, totalsOf, After}
 use Rattle.constraint_build.specs.declared.answer.Sizes.{Sizes}
@@ -129,11 +129,19 @@ pub record Tells (z : Answer Polynomial) (u v : Lent) (out w : List ℕ) (u′ v
   pub says : generatedSays r ≡ (z then λ y. done (toldOf y))
   pub stands : Stands z u v out w u′ v′ out′ w′
 
+-- x is chosen, and the limits and counts are kept
+pub record Accepts (p : Pool) (a : Asked) (x : Choice) : Type 0 where
+  pub chose : search (forest p) (a .identities) (a .vc) (a .nBits) (a .nBitsExt) (a .limit) ≡ done x
+  pub fine : judged (forest p) (length (p .nodes)) (a .vc) (columnsOf a (x .q)) (a .identities) (x .set) ≡ done tt
+
 -- THE CONTRACT
 pub record GeneratedIs (s : List ℕ) (a : Asked) (u v : Lent) (out w : List ℕ) (u′ v′ : Lent) (out′ w′ : List ℕ) (r : Generated) : Type 0 where
   pub answer : Answer Polynomial
   pub runs : Runs (reading s) a u v (length out) answer
   pub tells : Tells answer u v out w u′ v′ out′ w′ r
+  -- of an admitted pool, a set that was chosen for it and limits that it keeps: the pool with the constraint is admitted, stands for the extended forest, and its frames
+  -- are read as it
+  pub back : (i : Input) → reading s ≡ done i → Verdict (poolOf i) [] (done tt) → (x : Choice) → Accepts (poolOf i) a x → Back (poolOf i) (questionOf a x)
 
 -- what is asked for beside the frames
 abbrev pub asked : List ℕ → ℕ → ℕ → ℕ → ℕ → Before → Asked
