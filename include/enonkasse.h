@@ -332,6 +332,7 @@ uint8_t enonkasse_search(const uint8_t *frames, size_t frames_size, const uint64
  * ascending order, gets the cm number commitments + k; the qs are the n_cm4 numbers from the first one on.
  */
 #define ENONKASSE_CONSTRAINT_NUMBERS 6
+#define ENONKASSE_CONSTRAINT_TOTALS 7
 /* Bytes that always suffice for the frames of a pool: 19 for an addc or mulc, 6 for an expression. */
 #define ENONKASSE_MAX_FRAMES_SIZE 80896
 
@@ -354,6 +355,22 @@ uint8_t enonkasse_constraint_pool(const uint8_t *frames, size_t frames_size, con
                                   const uint64_t chosen[ENONKASSE_SET_WORDS], uint16_t vc, size_t n_cm1, size_t n_cm2,
                                   size_t commitments, size_t quotients, uint8_t *out, size_t out_size,
                                   size_t numbers[ENONKASSE_CONSTRAINT_NUMBERS]);
+
+/* All of `generate_constraint_polynomial` or nothing: the search, the frames of the pool with the constraint at the front of `out`, step3 in the
+ * first context with its list, step42ns in the second, each with its first, i and last lists at the front of their rooms. `chosen` is then
+ * the set, `found` q and the visits, `totals` the steps of step3's first, i and last lists, of step42ns's, and the bytes of the
+ * frames. The constraint's number is how many expressions the pool had; n_cm3 is commitments + members - n_cm1 - n_cm2, n_cm4 is q, and the qs are
+ * the q numbers from commitments + members on. Refuses 1 and 9 while reading, 1 of a context (also of one that marks an expression that the pool
+ * does not have), 2, 3, 4 of the pool, 17, 16, 3 of the identities, 15 and 6 as they are met, 13, 14, 9 of the limits, 11, 5 of step3, 5
+ * of step42ns, 9 of the rooms. */
+uint8_t enonkasse_constraint(const uint8_t *frames, size_t frames_size, const uint64_t *identities, size_t identities_size,
+                             uint16_t vc, uint64_t n_bits, uint64_t n_bits_ext, uint64_t limit, size_t n_cm1, size_t n_cm2,
+                             size_t commitments, uint8_t *context, size_t context_size, uint8_t *list, size_t list_size,
+                             uint8_t *first, size_t first_size, uint8_t *i, size_t i_size, uint8_t *last, size_t last_size,
+                             uint8_t *context_2ns, size_t context_2ns_size, uint8_t *list_2ns, size_t list_2ns_size,
+                             uint8_t *first_2ns, size_t first_2ns_size, uint8_t *i_2ns, size_t i_2ns_size, uint8_t *last_2ns,
+                             size_t last_2ns_size, uint8_t *out, size_t out_size, uint64_t chosen[ENONKASSE_SET_WORDS],
+                             uint64_t found[2], size_t totals[ENONKASSE_CONSTRAINT_TOTALS]);
 
 /* ---- Sections -----------------------------------------------------------------------------------------------------
  *

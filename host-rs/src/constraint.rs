@@ -1,4 +1,4 @@
-//! The constraint polynomial, in pieces that are called one after the other.
+//! The constraint polynomial: [`constraint`] does all of it or nothing; or in pieces that are called one after the other.
 //!
 //! [`search`](crate::search::search) chooses the expressions that become columns, the members; [`extend`] adds the constraint
 //! to the pool. The members served on the first context, and a build, are step3: [`step3`]. The members marked in
@@ -10,7 +10,9 @@ use crate::list::Segment;
 use crate::pool::{ExpressionId, Request};
 use crate::refusal::Refusal;
 use crate::search::Found;
-use enonkasse_sys::{self as library, CONSTRAINT_NUMBERS, MAX_FRAMES_SIZE};
+use enonkasse_sys::{
+    self as library, CONSTRAINT_NUMBERS, CONSTRAINT_TOTALS, MAX_FRAMES_SIZE, SET_WORDS,
+};
 
 /// What the columns are counted from.
 #[derive(Clone, Copy, Debug, Default, PartialEq, Eq, Hash)]
@@ -68,18 +70,118 @@ pub fn extend(
         &mut out,
         &mut numbers,
     ))?;
-    let [expression, n_cm3, n_cm4, first_q, commitments, size] = numbers;
+    let [_, n_cm3, n_cm4, first_q, commitments, size] = numbers;
     out.truncate(size);
-    // A column's number has 16 bits, else it is refused.
-    let column = |number: usize| number as u16;
-    Ok(Extended {
-        frames: Frames::from_bytes(out),
-        expression: ExpressionId(expression as u16),
-        intermediates: found.set.iter().copied().zip((columns.commitments..).map(column)).collect(),
-        n_cm3,
-        qs: (first_q..first_q + n_cm4).map(column).collect(),
-        commitments,
+    let numbers = [n_cm3, n_cm4, first_q, commitments];
+    Ok(Extended::told(Frames::from_bytes(out), found, columns.commitments, numbers))
+}
+
+/// What is asked of the whole.
+#[derive(Clone, Debug, PartialEq, Eq)]
+pub struct Question {
+    /// The identities, numbers of expressions.
+    pub identities: Vec<ExpressionId>,
+    /// The number of the challenge "vc".
+    pub vc: u16,
+    /// The bits of the trace.
+    pub n_bits: u8,
+    /// The bits of its extension.
+    pub n_bits_ext: u8,
+    /// The most visits of the search.
+    pub limit: u64,
+    /// What the columns are counted from.
+    pub columns: Columns,
+}
+
+/// The constraint polynomial.
+#[derive(Clone, Debug, PartialEq, Eq)]
+pub struct Constraint {
+    /// What the search found.
+    pub found: Found,
+    /// The pool with the constraint, its columns and numbers.
+    pub extended: Extended,
+    /// The members, made on the first context.
+    pub step3: Segment,
+    /// The constraint, made on the second.
+    pub step42ns: Segment,
+}
+
+/// All of it, or a refusal that leaves both contexts as they were.
+///
+/// # Errors
+///
+/// The pool's refusal and 1 of a context; the search's; 9 where a limit is passed, 11 of the counts; 5 of step3 and of step42ns; 9
+/// where a context's list is full.
+pub fn constraint(
+    frames: &Frames,
+    question: &Question,
+    first: &mut Context,
+    second: &mut Context,
+) -> Result<Constraint, Refusal> {
+    let identities: Vec<u64> = question.identities.iter().map(|e| e.0.into()).collect();
+    let mut out = vec![0; MAX_FRAMES_SIZE];
+    let (mut chosen, mut found, mut totals) = ([0; SET_WORDS], [0; 2], [0; CONSTRAINT_TOTALS]);
+    let (mut lists, mut lists_2ns) = (first.rooms(), second.rooms());
+    let Columns { n_cm1, n_cm2, commitments } = question.columns;
+    {
+        let ([a, i, z], [a_2ns, i_2ns, z_2ns]) = (&mut lists, &mut lists_2ns);
+        let ((context, list), (context_2ns, list_2ns)) = (first.parts(), second.parts());
+        Refusal::check(library::constraint(
+            frames.bytes(),
+            &identities,
+            question.vc,
+            question.n_bits.into(),
+            question.n_bits_ext.into(),
+            question.limit,
+            n_cm1,
+            n_cm2,
+            commitments,
+            context,
+            list,
+            a,
+            i,
+            z,
+            context_2ns,
+            list_2ns,
+            a_2ns,
+            i_2ns,
+            z_2ns,
+            &mut out,
+            &mut chosen,
+            &mut found,
+            &mut totals,
+        ))?;
+    }
+    let [a, i, z, a_2ns, i_2ns, z_2ns, size] = totals;
+    out.truncate(size);
+    let [q, visits] = found;
+    let found = Found { set: Found::members(&chosen), q, visits };
+    let first_q = commitments + found.set.len();
+    let numbers = [first_q - n_cm1 - n_cm2, q as usize, first_q, first_q + q as usize];
+    Ok(Constraint {
+        extended: Extended::told(Frames::from_bytes(out), &found, commitments, numbers),
+        found,
+        step3: first.segment(lists, [a, i, z]),
+        step42ns: second.segment(lists_2ns, [a_2ns, i_2ns, z_2ns]),
     })
+}
+
+impl Extended {
+    /// With n_cm3, n_cm4, the first of the qs, and nCommitments after them.
+    fn told(frames: Frames, found: &Found, commitments: usize, numbers: [usize; 4]) -> Extended {
+        let [n_cm3, n_cm4, first_q, after] = numbers;
+        // A column's number has 16 bits, else it is refused.
+        let column = |number: usize| number as u16;
+        Extended {
+            // The constraint is the last expression.
+            expression: ExpressionId(frames.expression_count() as u16 - 1),
+            intermediates: found.set.iter().copied().zip((commitments..).map(column)).collect(),
+            n_cm3,
+            qs: (first_q..first_q + n_cm4).map(column).collect(),
+            commitments: after,
+            frames,
+        }
+    }
 }
 
 /// step3: the members on the caller's context.

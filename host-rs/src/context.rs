@@ -84,8 +84,7 @@ impl Context {
     pub fn build(&mut self, frames: &Frames) -> Result<Segment, Refusal> {
         // The i and last lists are parts of the first.
         let room = vec![0; STEP_SIZE * self.step_count()];
-        let mut lists = [room.clone(), room.clone(), room];
-        let mut sizes = [0; 3];
+        let (mut lists, mut sizes) = ([room.clone(), room.clone(), room], [0; 3]);
         let [first, i, last] = &mut lists;
         Refusal::check(library::build(
             frames.bytes(),
@@ -96,9 +95,25 @@ impl Context {
             last,
             &mut sizes,
         ))?;
+        Ok(self.segment(lists, sizes))
+    }
+
+    /// Three lists of so many steps, and the counter as it stands.
+    pub(crate) fn segment(&self, mut lists: [Vec<u8>; 3], sizes: [usize; 3]) -> Segment {
         lists.iter_mut().zip(sizes).for_each(|(list, size)| list.truncate(STEP_SIZE * size));
         let [first, i, last] = lists.map(List::from_bytes);
-        Ok(Segment { first, i, last, counter: self.temporary_count() })
+        Segment { first, i, last, counter: self.temporary_count() }
+    }
+
+    /// Its bytes and its list, to be lent.
+    pub(crate) fn parts(&mut self) -> (&mut [u8], &mut [u8]) {
+        (&mut self.bytes, &mut self.list)
+    }
+
+    /// Rooms for the lists of a build of all that its list has room for.
+    pub(crate) fn rooms(&self) -> [Vec<u8>; 3] {
+        let room = vec![0; self.list.len()];
+        [room.clone(), room.clone(), room]
     }
 
     /// The steps generated since it was fresh or built: the first list of a build.

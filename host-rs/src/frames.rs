@@ -12,6 +12,7 @@ pub struct Frames {
 }
 
 const NODE: u8 = 0x01;
+const EXPRESSION: u8 = 0x02;
 
 /// The bytes that say how long a frame is.
 const LENGTH: usize = 2;
@@ -56,6 +57,14 @@ impl Frames {
     /// As the library reads them: each behind its length in two bytes.
     pub fn bytes(&self) -> &[u8] {
         &self.bytes
+    }
+
+    /// How many of them are expressions.
+    pub(crate) fn expression_count(&self) -> usize {
+        self.starts
+            .iter()
+            .filter(|&&start| self.bytes.get(start + LENGTH) == Some(&EXPRESSION))
+            .count()
     }
 
     /// The literal that a node brings to a list: 0 where it has none.

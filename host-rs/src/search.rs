@@ -17,6 +17,12 @@ pub struct Found {
 }
 
 impl Found {
+    /// The members of a set as the library gives it, ascending.
+    pub(crate) fn members(words: &[u64; SET_WORDS]) -> Vec<ExpressionId> {
+        let is_in = |&e: &u16| words[usize::from(e / 64)] >> (e % 64) & 1 == 1;
+        (0..MAX_EXPRESSIONS as u16).filter(is_in).map(ExpressionId).collect()
+    }
+
     /// The set as the library takes it: a bit for each expression, then how many there are.
     pub(crate) fn words(&self) -> [u64; SET_WORDS] {
         let mut words = [0; SET_WORDS];
@@ -53,9 +59,7 @@ pub fn search(
         &mut found,
     ))?;
     let [q, visits] = found;
-    let is_in = |&e: &u16| chosen[usize::from(e / 64)] >> (e % 64) & 1 == 1;
-    let set = (0..MAX_EXPRESSIONS as u16).filter(is_in).map(ExpressionId).collect();
-    Ok(Found { set, q, visits })
+    Ok(Found { set: Found::members(&chosen), q, visits })
 }
 
 #[cfg(test)]

@@ -1,6 +1,6 @@
 //! The constraint polynomial, piece by piece: what document 01's rules make of small pools.
 
-use enonkasse::constraint::{extend, step3, step42ns, Columns, Extended};
+use enonkasse::constraint::{constraint, extend, step3, step42ns, Columns, Extended, Question};
 use enonkasse::search::search;
 use enonkasse::{Context, ExpressionId, Flags, Found, Pool, Refusal, Request, Segment};
 
@@ -125,4 +125,60 @@ fn generation_refuses_after_an_accepted_search() {
     let before = context.clone();
     assert_eq!(step3(&extended, &mut context), Err(Refusal::DoublePrime));
     assert_eq!(context, before);
+}
+
+fn question(identities: &[u16]) -> Question {
+    Question {
+        identities: identities.iter().map(|&e| ExpressionId(e)).collect(),
+        vc: VC,
+        n_bits: 10,
+        n_bits_ext: 10,
+        limit: 1000,
+        columns: COLUMNS,
+    }
+}
+
+#[test]
+fn the_one_call_is_the_pieces_in_order() {
+    let pool = two();
+    let (mut first, mut second) = (Context::new(), Context::new());
+    let made = constraint(&pool.frames(), &question(&[1]), &mut first, &mut second).unwrap();
+    let extended = extended(&pool);
+    let (mut one, mut two) = (Context::new(), Context::new());
+    assert_eq!(made.found, found(&pool));
+    assert_eq!(made.extended, extended);
+    assert_eq!(made.step3, step3(&extended, &mut one).unwrap());
+    assert_eq!(made.step42ns, step42ns(&extended, &mut two).unwrap());
+    let state = |context: &Context| {
+        let marks = |e| (context.is_marked(e, false), context.is_marked(e, true));
+        ((0..4).map(|e| marks(ExpressionId(e))).collect::<Vec<_>>(), context.temporary_count())
+    };
+    assert_eq!((state(&first), state(&second)), (state(&one), state(&two)));
+}
+
+#[test]
+fn a_refused_call_leaves_both_contexts() {
+    let pool = two();
+    let (mut first, mut second) = (Context::new(), Context::new());
+    let served = pool.frames().with_requests(&[Request::of(ExpressionId(0))]);
+    first.serve(&served).unwrap();
+    let mut marked = Context::new();
+    marked.mark_both_ways(ExpressionId(2)).unwrap();
+    let mut tight = Context::with_room(5);
+    let before = (first.clone(), second.clone(), marked.clone(), tight.clone());
+    let mut asked = |question: &Question, second: &mut Context| {
+        constraint(&pool.frames(), question, &mut first, second).err()
+    };
+    assert_eq!(asked(&question(&[]), &mut second), Some(Refusal::NoIdentity));
+    assert_eq!(asked(&question(&[2]), &mut second), Some(Refusal::NotThere));
+    let limited = Question { limit: 3, ..question(&[1]) };
+    assert_eq!(asked(&limited, &mut second), Some(Refusal::Visits));
+    let fewer = Columns { commitments: 2, ..COLUMNS };
+    let fewer = Question { columns: fewer, ..question(&[1]) };
+    assert_eq!(asked(&fewer, &mut second), Some(Refusal::Counts));
+    // The constraint's own number is none of the pool's.
+    assert_eq!(asked(&question(&[1]), &mut marked), Some(Refusal::Malformed));
+    // It needs six steps.
+    assert_eq!(asked(&question(&[1]), &mut tight), Some(Refusal::Full));
+    assert_eq!((first, second, marked, tight), before);
 }

@@ -72,6 +72,9 @@ constants! {
     /// Numbers that the pool with the constraint is told with: c_exp, n_cm3, n_cm4, the first of qs, nCommitments, and
     /// the bytes of its frames.
     CONSTRAINT_NUMBERS = 6;
+    /// Totals of the whole constraint: the steps of step3's first, i and last lists, of step42ns's, and the bytes of the
+    /// frames.
+    CONSTRAINT_TOTALS = 7;
     /// Bytes that always suffice for the frames of a pool: 19 for an addc or mulc, 6 for an expression.
     MAX_FRAMES_SIZE = 19 * MAX_NODES + 6 * MAX_EXPRESSIONS;
 }

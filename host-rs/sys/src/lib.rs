@@ -88,4 +88,17 @@ exported! {
         n_cm1: usize, n_cm2: usize, commitments: usize, quotients: usize,
         out: &mut [u8], numbers: &mut [usize; CONSTRAINT_NUMBERS]
     );
+
+    /// All of `generate_constraint_polynomial` or nothing: searches, adds the constraint to the pool, makes step3 in the
+    /// first context and step42ns in the second; says q and the visits, how many steps each of the six lists has,
+    /// and how many bytes the frames of the pool with the constraint have.
+    fn enonkasse_constraint as constraint(
+        frames: &[u8], identities: &[u64], vc: u16, n_bits: u64, n_bits_ext: u64, limit: u64,
+        n_cm1: usize, n_cm2: usize, commitments: usize,
+        context: &mut [u8], list: &mut [u8], first: &mut [u8], i: &mut [u8], last: &mut [u8],
+        context_2ns: &mut [u8], list_2ns: &mut [u8],
+        first_2ns: &mut [u8], i_2ns: &mut [u8], last_2ns: &mut [u8],
+        out: &mut [u8], chosen: &mut [u64; SET_WORDS], found: &mut [u64; 2],
+        totals: &mut [usize; CONSTRAINT_TOTALS]
+    );
 }
