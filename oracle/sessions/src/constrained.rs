@@ -1,10 +1,10 @@
-//! The constraint polynomial in pieces, as a host calls them one after the other, compared with the original's.
+//! The constraint polynomial, in pieces as a host calls them one after the other, and in one call, compared with the original's.
 
 use crate::record::{encoded, framed, pool_frames, said};
 use crate::searched;
 use enonkasse_sys::{
-    self as library, CONSTRAINT_NUMBERS, CONTEXT_SIZE, LIST_ROOM, MAX_FRAMES_SIZE, SET_WORDS,
-    STEP_SIZE,
+    self as library, CONSTRAINT_NUMBERS, CONSTRAINT_TOTALS, CONTEXT_SIZE, LIST_ROOM,
+    MAX_FRAMES_SIZE, SET_WORDS, STEP_SIZE,
 };
 use judge::answer::StepBytes;
 use judge::hex;
@@ -14,6 +14,9 @@ use searches::constraint::{Built, Constraint, Made};
 use searches::question::{Answer, Question};
 use searches::search::Found;
 use searches::tally::{Labelled, Questions, Said, Tally};
+
+/// What stands where nothing was written.
+const UNWRITTEN: u8 = 0xa5;
 
 /// Why a piece did not come to its end: its number, or what is wrong with what it left.
 enum Stop {
@@ -35,6 +38,7 @@ fn done(number: u8) -> Result<(), Stop> {
 }
 
 /// A context with its list.
+#[derive(Clone, PartialEq, Eq)]
 struct Lent {
     context: Vec<u8>,
     list: Vec<u8>,
@@ -73,13 +77,13 @@ impl Lent {
     }
 
     /// Its lists and its state after a build.
-    fn built(&mut self, frames: &[u8], pool: &Pool) -> Result<Built, Stop> {
+    fn built(&self, lists: [Vec<u8>; 3], pool: &Pool) -> Result<Built, Stop> {
         let steps = |list: Vec<u8>| -> Result<Vec<StepBytes>, String> {
             let step = |record| encoded(record, pool).map(StepBytes::encoded);
             let steps: Option<_> = list.chunks(STEP_SIZE).map(step).collect();
             steps.ok_or_else(|| "a step that generation does not make\n".to_string())
         };
-        let [first, i, last] = self.build(frames)?;
+        let [first, i, last] = lists;
         let (first, i, last) = (steps(first)?, steps(i)?, steps(last)?);
         let (state, ..) =
             said(&self.context, pool.expressions().len()).ok_or("a bad context\n".to_string())?;
@@ -142,15 +146,14 @@ fn plain(expression: usize) -> Request {
 }
 
 /// One piece after the other.
-fn made(constraint: &Constraint) -> Result<Made, Stop> {
+fn in_pieces(constraint: &Constraint) -> Result<Made, Stop> {
     let own = pool_frames(&constraint.search.pool);
     let mut first = Lent::after(&constraint.first, &own)?;
     let mut second = Lent::after(&constraint.second, &own)?;
     let (found, chosen) = searched::found(&constraint.search)?.map_err(Stop::Refused)?;
     let Found { ref set, q, .. } = found;
     let Extended { frames, pool, numbers } = extended(constraint, &chosen, q)?;
-    let [c_exp, n_cm3, n_cm4, first_q, commitments, _] = numbers;
-    let expressions = pool.expressions().len();
+    let (c_exp, expressions) = (numbers[0], pool.expressions().len());
 
     first.serve(&frames, &set.iter().map(|&e| plain(e)).collect::<Vec<_>>())?;
     let members: Vec<u64> = set.iter().map(|&e| e as u64).collect();
@@ -159,26 +162,142 @@ fn made(constraint: &Constraint) -> Result<Made, Stop> {
     second.serve(&frames, &[plain(c_exp)])?;
     done(library::close(expressions, &mut second.context, &mut second.list))?;
 
-    let before = usize::from(constraint.commitments);
-    Ok(Made {
-        intermediates: set.iter().copied().zip(before..).collect(),
-        c_exp,
-        nodes: pool.nodes()[constraint.search.pool.nodes().len()..].to_vec(),
-        n_cm3,
-        n_cm4,
-        qs: (first_q..first_q + n_cm4).collect(),
-        commitments,
-        step3: first.built(&frames, &pool)?,
-        step42ns: second.built(&frames, &pool)?,
-        found,
-    })
+    let lists = [first.build(&frames)?, second.build(&frames)?];
+    Parts { found, numbers, pool, lists, contexts: [first, second] }.made(constraint)
+}
+
+/// What the pieces or the one call left.
+struct Parts {
+    found: Found,
+    numbers: [usize; CONSTRAINT_NUMBERS],
+    pool: Pool,
+    lists: [[Vec<u8>; 3]; 2],
+    contexts: [Lent; 2],
+}
+
+impl Parts {
+    fn made(self, constraint: &Constraint) -> Result<Made, Stop> {
+        let Parts { found, numbers, pool, lists: [lists, lists_2ns], contexts: [first, second] } =
+            self;
+        let [c_exp, n_cm3, n_cm4, first_q, commitments, _] = numbers;
+        let before = usize::from(constraint.commitments);
+        Ok(Made {
+            intermediates: found.set.iter().copied().zip(before..).collect(),
+            c_exp,
+            nodes: pool.nodes()[constraint.search.pool.nodes().len()..].to_vec(),
+            n_cm3,
+            n_cm4,
+            qs: (first_q..first_q + n_cm4).collect(),
+            commitments,
+            step3: first.built(lists, &pool)?,
+            step42ns: second.built(lists_2ns, &pool)?,
+            found,
+        })
+    }
+}
+
+/// Everything that the one call is lent to write into.
+#[derive(Clone, PartialEq, Eq)]
+struct Rooms {
+    contexts: [Lent; 2],
+    lists: [[Vec<u8>; 3]; 2],
+    out: Vec<u8>,
+    chosen: searched::Chosen,
+    found: [u64; 2],
+    totals: [usize; CONSTRAINT_TOTALS],
+}
+
+impl Rooms {
+    fn of(contexts: [Lent; 2]) -> Rooms {
+        let room = || vec![UNWRITTEN; STEP_SIZE * LIST_ROOM];
+        let rooms = || [room(), room(), room()];
+        Rooms {
+            contexts,
+            lists: [rooms(), rooms()],
+            out: vec![UNWRITTEN; MAX_FRAMES_SIZE],
+            chosen: [u64::MAX; SET_WORDS],
+            found: [u64::MAX; 2],
+            totals: [usize::MAX; CONSTRAINT_TOTALS],
+        }
+    }
+
+    fn call(&mut self, constraint: &Constraint) -> u8 {
+        let Constraint { n_cm1, n_cm2, commitments, vc, ref search, .. } = *constraint;
+        let [one, two] = &mut self.contexts;
+        let [[first, i, last], [first_2ns, i_2ns, last_2ns]] = &mut self.lists;
+        library::constraint(
+            &pool_frames(&search.pool),
+            &searched::identities(search),
+            vc,
+            search.n_bits.into(),
+            search.n_bits_ext.into(),
+            search.limit,
+            n_cm1.into(),
+            n_cm2.into(),
+            commitments.into(),
+            &mut one.context,
+            &mut one.list,
+            first,
+            i,
+            last,
+            &mut two.context,
+            &mut two.list,
+            first_2ns,
+            i_2ns,
+            last_2ns,
+            &mut self.out,
+            &mut self.chosen,
+            &mut self.found,
+            &mut self.totals,
+        )
+    }
+}
+
+/// All of it in one call; what it does not tell is counted from what it does.
+fn in_one_call(constraint: &Constraint) -> Result<Made, Stop> {
+    let own = pool_frames(&constraint.search.pool);
+    let contexts = [Lent::after(&constraint.first, &own)?, Lent::after(&constraint.second, &own)?];
+    let before = Rooms::of(contexts);
+    let mut rooms = before.clone();
+    let number = rooms.call(constraint);
+    if number != 0 && rooms != before {
+        return Err(Stop::Wrong(format!(
+            "refused with {}, and what was lent has changed\n",
+            number
+        )));
+    }
+    done(number)?;
+    let Rooms { contexts, mut lists, out, chosen, found: [q, visits], totals } = rooms;
+    let (steps, size) = (&totals[..6], totals[6]);
+    for (list, &count) in lists.iter_mut().flatten().zip(steps) {
+        if list[STEP_SIZE * count..].iter().any(|&byte| byte != UNWRITTEN) {
+            return Err(Stop::Wrong("something stands behind a list\n".to_string()));
+        }
+        list.truncate(STEP_SIZE * count);
+    }
+    let pool = read(&out[..size])?;
+    let found = Found { set: searched::members(&chosen), q: q as usize, visits };
+    let first_q = usize::from(constraint.commitments) + found.set.len();
+    let n_cm3 = first_q - usize::from(constraint.n_cm1) - usize::from(constraint.n_cm2);
+    let c_exp = constraint.search.pool.expressions().len();
+    let numbers = [c_exp, n_cm3, found.q, first_q, first_q + found.q, size];
+    Parts { found, numbers, pool, lists, contexts }.made(constraint)
 }
 
 fn say(question: &Question) -> Said {
     let Question::Constraint(constraint) = question else {
         return Ok(None);
     };
-    match made(constraint) {
+    let pieces = told(in_pieces(constraint))?;
+    let one_call = told(in_one_call(constraint))?;
+    if pieces != one_call {
+        return Err("the one call answers otherwise than the pieces\n".to_string());
+    }
+    Ok(one_call)
+}
+
+fn told(made: Result<Made, Stop>) -> Said {
+    match made {
         Ok(made) => Ok(Some(Answer::Made(Box::new(made)))),
         Err(Stop::Refused(number)) => Ok(Some(Answer::Refused(number))),
         Err(Stop::Wrong(text)) => Err(text),

@@ -19,6 +19,7 @@ pub enum Export {
     Mark,
     Close,
     ConstraintPool,
+    Constraint,
 }
 
 /// What is lent: numbers, byte slices, slices and arrays of words, and an array of counts, each in the
@@ -40,7 +41,7 @@ impl Lent {
 }
 
 impl Export {
-    pub const ALL: [Export; 14] = [
+    pub const ALL: [Export; 15] = [
         Export::Fresh,
         Export::Serve,
         Export::Build,
@@ -55,6 +56,7 @@ impl Export {
         Export::Mark,
         Export::Close,
         Export::ConstraintPool,
+        Export::Constraint,
     ];
 
     /// Its name in the library, without what all begin with.
@@ -75,13 +77,18 @@ impl Export {
             Export::Mark => &[0],
             Export::Close => &[0, 1],
             Export::ConstraintPool => &[1],
+            Export::Constraint => &[1, 2, 3, 4, 5, 6, 7, 8, 9, 10, 11],
         }
     }
 
     /// How many of the words are slices; the others are arrays, which it may write.
     pub fn word_slices(self) -> usize {
         match self {
-            Export::Evaluate | Export::Search | Export::Mark | Export::ConstraintPool => 1,
+            Export::Evaluate
+            | Export::Search
+            | Export::Mark
+            | Export::ConstraintPool
+            | Export::Constraint => 1,
             _ => 0,
         }
     }
@@ -192,6 +199,31 @@ impl Between {
                 numbers[3] as usize,
                 numbers[4] as usize,
                 next(),
+                counts.lent_array(),
+            ),
+            Export::Constraint => library::constraint(
+                next(),
+                word().lent(),
+                numbers[0] as u16,
+                numbers[1],
+                numbers[2],
+                numbers[3],
+                numbers[4] as usize,
+                numbers[5] as usize,
+                numbers[6] as usize,
+                next(),
+                next(),
+                next(),
+                next(),
+                next(),
+                next(),
+                next(),
+                next(),
+                next(),
+                next(),
+                next(),
+                word().lent_array(),
+                word().lent_array(),
                 counts.lent_array(),
             ),
         }

@@ -6,8 +6,8 @@ use crate::planned;
 use crate::record::{framed, pool_frames};
 use crate::searched;
 use enonkasse_sys::{
-    self as library, CELL_SIZE, CONSTRAINT_NUMBERS, CONTEXT_SIZE, MAP_ROOM, SET_WORDS,
-    STEP_COUNT_AT, STEP_SIZE,
+    self as library, CELL_SIZE, CONSTRAINT_NUMBERS, CONSTRAINT_TOTALS, CONTEXT_SIZE, MAP_ROOM,
+    SET_WORDS, STEP_COUNT_AT, STEP_SIZE,
 };
 use judge::pool::Pool;
 use judge::random::{self, Random};
@@ -97,7 +97,8 @@ impl Good {
             Export::Search => self.lent_to_search(),
             Export::Mark => self.session.mark(),
             Export::Close => self.session.close(),
-            Export::ConstraintPool => self.lent_to_constraint(),
+            Export::ConstraintPool => self.lent_to_constraint_pool(),
+            Export::Constraint => self.lent_to_constraint(),
         }
     }
 
@@ -114,7 +115,7 @@ impl Good {
 
 impl Good {
     /// With what the search chose, if it did.
-    fn lent_to_constraint(&self) -> Lent {
+    fn lent_to_constraint_pool(&self) -> Lent {
         let Search { pool, identities, n_bits, n_bits_ext, limit } = &self.search;
         let (frames, mut chosen, mut found) = (pool_frames(pool), [0; SET_WORDS], [0; 2]);
         let identities: Vec<u64> = identities.iter().map(|&e| e.into()).collect();
@@ -134,6 +135,26 @@ impl Good {
             words: vec![identities, chosen.to_vec()],
             counts: vec![COUNT; CONSTRAINT_NUMBERS],
             ..Lent::of_bytes(&[&frames, &out])
+        }
+    }
+
+    /// On two fresh contexts, with little room.
+    fn lent_to_constraint(&self) -> Lent {
+        let Lent { numbers, bytes, mut words, .. } = self.lent_to_search();
+        let [frames] = &bytes[..] else { unreachable!("a search is lent frames alone") };
+        let (mut context, list) = (vec![0; CONTEXT_SIZE], vec![0; STEP_SIZE * ROOM]);
+        library::fresh(&mut context);
+        let out = vec![0; frames.len() + FRAMES_ROOM];
+        let lent: [&[u8]; 5] = [&context, &list, &list, &list, &list];
+        let parts: Vec<&[u8]> =
+            [&frames[..]].into_iter().chain(lent).chain(lent).chain([&out[..]]).collect();
+        words[1] = vec![WORD; SET_WORDS];
+        let asked = [&[self.dim_x.into()], &numbers[..], &[1, 2, 5]].concat();
+        Lent {
+            numbers: asked,
+            words,
+            counts: vec![COUNT; CONSTRAINT_TOTALS],
+            ..Lent::of_bytes(&parts)
         }
     }
 }

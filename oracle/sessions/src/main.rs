@@ -11,7 +11,7 @@ sessions runs SEED COUNT        compares the whole run as one call with the orig
 sessions evaluate SEED COUNT    evaluates COUNT first lists and compares the cells with the trees
 sessions plans SEED COUNT       compares COUNT random plans and the walks over lists by them with the original
 sessions searches SEED COUNT    compares COUNT random degree searches with the original
-sessions constraints SEED COUNT compares COUNT random constraint polynomials, made piece by piece, with the original
+sessions constraints SEED COUNT compares COUNT random constraint polynomials, in pieces and in one call, with the original
 sessions sections SEED COUNT    compares COUNT random lists of records, mapped into their sections, with the original
 sessions garbage SEED COUNT     calls every function COUNT times with good, damaged and random input
 sessions all SEED PERCENT       all of these, PERCENT of the full run, in one table

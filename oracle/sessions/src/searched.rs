@@ -92,6 +92,6 @@ pub fn found(search: &Search) -> Result<Result<(Found, Chosen), u8>, String> {
     Ok(Err(number))
 }
 
-fn members(chosen: &[u64; SET_WORDS]) -> Vec<usize> {
+pub fn members(chosen: &Chosen) -> Vec<usize> {
     (0..MAX_EXPRESSIONS).filter(|e| chosen[e / 64] >> (e % 64) & 1 == 1).collect()
 }

@@ -3,8 +3,8 @@
 use crate::planned::{Lent, Sent, Stage};
 use crate::record::{framed, pool_frames};
 use enonkasse_sys::{
-    self as library, CONSTRAINT_NUMBERS, LIST_ROOM, MAX_FRAMES_SIZE, SET_BIT_WORDS, SET_WORDS,
-    STEP_SIZE,
+    self as library, CONSTRAINT_NUMBERS, CONSTRAINT_TOTALS, CONTEXT_SIZE, LIST_ROOM,
+    MAX_FRAMES_SIZE, SET_BIT_WORDS, SET_WORDS, STEP_SIZE,
 };
 use judge::case::{cm, exp, mul, neg, number, Case, Tree};
 use judge::pool::{Flags, Pool, MAX_EXPRESSIONS, MAX_NODES};
@@ -112,7 +112,11 @@ fn calls(pool: &Pool) -> Vec<(&'static str, Call<'_>)> {
         calls.push(("search", Box::new(search)));
     }
     calls.push(("run", Box::new(run(pool))));
-    calls.push(("constraint_pool", Box::new(constraint_pool(frames, last))));
+    calls.push(("constraint_pool", Box::new(constraint_pool(frames.clone(), last))));
+    for more in [0, 4] {
+        let frames = frames.clone();
+        calls.push(("constraint", Box::new(move || constraint(&frames, last, more))));
+    }
     calls
 }
 
@@ -146,6 +150,41 @@ fn constraint_pool(frames: Vec<u8>, last: u64) -> impl Fn() -> u8 {
             &mut numbers,
         )
     }
+}
+
+/// On fresh contexts, with the last expression as its identity.
+fn constraint(frames: &[u8], last: u64, more: u64) -> u8 {
+    let mut context = vec![0; CONTEXT_SIZE];
+    library::fresh(&mut context);
+    let room = vec![0; STEP_SIZE * LIST_ROOM];
+    let lists = || [room.clone(), room.clone(), room.clone(), room.clone()];
+    let ([list, first, i, end], [list_2ns, first_2ns, i_2ns, end_2ns]) =
+        (&mut lists(), &mut lists());
+    library::constraint(
+        frames,
+        &[last],
+        4,
+        3,
+        3 + more,
+        VISITS,
+        1,
+        0,
+        1,
+        &mut context.clone(),
+        list,
+        first,
+        i,
+        end,
+        &mut context,
+        list_2ns,
+        first_2ns,
+        i_2ns,
+        end_2ns,
+        &mut vec![0; MAX_FRAMES_SIZE],
+        &mut [0; SET_WORDS],
+        &mut [0; 2],
+        &mut [0; CONSTRAINT_TOTALS],
+    )
 }
 
 /// The stack that a call touches, in bytes, and its answer.
