@@ -47,10 +47,11 @@ use Rattle.constraint_frames.specs.Unique.{columnsOf}
 use Rattle.constraint_frames.specs.Extension.{Back}
 use Rattle.constraint_frames.specs.Backward.{shaped-few, back-asks}
 use Rattle.constraint_build.specs.Both.{Lent}
+use Rattle.starkinfo_cp_prover.specs.Meant.{each-at}
 use Rattle.starkinfo_cp_prover.specs.Polynomial.{Polynomial, questionOf, Accepts, generating, OrMalformed, Answers, Runs, generatedSays, Tells, GeneratedIs, AdmittedAsks, ReadAsks}
 use Rattle.starkinfo_cp_prover.specs.declared.answer.Generated.{Generated}
 use Rattle.starkinfo_cp_prover.specs.declared.answer.Generated.the-variants as told
-use Rattle.starkinfo_cp_prover.proofs.Founds.{refused-as, each-at, some-one}
+use Rattle.starkinfo_cp_prover.proofs.Founds.{refused-as, some-one}
 
 module _ {w l x : List ℕ} {k : Counts} (a : ReadAsks w l x k) (q : Asked) (u v : Lent) (out t : List ℕ) where
   abbrev P : Pool

@@ -5,7 +5,6 @@ use mathlib.Core.Path.{_≡_, refl, sym, _∙_, ap, subst}
 use mathlib.Core.Option.{Option, none, some}
 use mathlib.Core.List.{List, [], _∷_}
 use native.Mathlib.Omega.{arith}
-use native.Mathlib.Nat.{not-suc-le-zero, le-of-suc-le-suc}
 use lib.ListN.{length, getD}
 use Rattle.meaning.specs.Refusals.{Refusal, Answer, done, refused, _then_}
 use Rattle.meaning.specs.Trees.{Each, Forest}
@@ -31,18 +30,14 @@ use Rattle.constraint_pool.specs.declared.judge.Columns.{Columns}
 use Rattle.constraint_frames.specs.Extension.{Question, asking, poolWith}
 use Rattle.constraint_build.specs.Both.{Lent, Both, Totals, totalsOf, After}
 use Rattle.constraint_build.specs.declared.answer.Made.the-variants as made
+use Rattle.starkinfo_cp_prover.specs.Meant.{each-at}
 use Rattle.starkinfo_cp_prover.specs.Polynomial.{Polynomial, questionOf, constrained, chosenBy, generating, generatedSays, toldOf, Keeps, Stands, Tells, asked, columnsWith, chosenSays, StandsChosen, TellsChosen, setAfter, generatedOf, ChosenAsks, AdmittedAsks}
 use Rattle.starkinfo_cp_prover.specs.declared.answer.Before.{Before}
 use Rattle.starkinfo_cp_prover.specs.declared.answer.Chosen.{Chosen}
 use Rattle.starkinfo_cp_prover.specs.declared.answer.Chosen.the-variants as chosen
 use Rattle.starkinfo_cp_prover.specs.declared.answer.Generated.{Generated}
 
--- ---- lists
-
-pub each-at : (m : ℕ) (es : List ℕ) → Each (λ e. e < m) es → AllBelow m es
-each-at m [] h k g = absurd (not-suc-le-zero g)
-each-at m (e ∷ es) h zero g = h .0
-each-at m (e ∷ es) h (suc k) g = each-at m es (h .1) k (le-of-suc-le-suc g)
+-- ---- the search
 
 -- a search that chose had an identity
 pub some-one : (E : Forest) (ks : List ℕ) (vc n ext : ℕ) (limit : Option ℕ) (x : Choice) → search E ks vc n ext limit ≡ done x → 0 < length ks
