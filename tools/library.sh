@@ -7,8 +7,19 @@ cd "$(dirname "$0")/.."
 # host-rs/sys/build.rs looks for the object of the last one.
 others=(constraint_host records)
 
-rt staticlib host
+# What they stand on is proved once; then each of them for itself, at the same time.
+rt check host "${others[@]}"
+makers=()
+for crate in host "${others[@]}"; do
+    rt staticlib "$crate" &
+    makers+=($!)
+done
+for maker in "${makers[@]}"; do
+    wait "$maker"
+done
+cd target/staticlib
 for crate in "${others[@]}"; do
-    rt staticlib "$crate"
-    (cd target/staticlib && ar x "lib$crate.a" "$crate.o" && ar rs libhost.a "$crate.o" && rm "$crate.o")
+    ar x "lib$crate.a" "$crate.o"
+    ar rs libhost.a "$crate.o"
+    rm "$crate.o"
 done
