@@ -3,7 +3,7 @@
 use crate::clock::timed;
 use crate::inputs::{both_ways, chain, regular, request, Reading};
 use crate::measure::{Case, Pair, Work};
-use enonkasse_sys::{build, fresh, serve, CONTEXT_SIZE, LIST_ROOM, STEP_SIZE};
+use enonkasse_sys::{build, fresh, run, serve, CONTEXT_SIZE, LIST_ROOM, STEP_SIZE};
 use judge::answer::StepBytes;
 use judge::pool::{Pool, MAX_NODES};
 use judge::random::whole_run;
@@ -32,6 +32,7 @@ pub struct Lent {
     list: Vec<u8>,
     lists: [Vec<u8>; 3],
     sizes: [usize; 3],
+    totals: [usize; 2],
 }
 
 impl Lent {
@@ -40,7 +41,7 @@ impl Lent {
         frames.extend(framed(requests.iter().map(Request::frame)));
         let room = || vec![0; STEP_SIZE * LIST_ROOM];
         let (context, lists) = (vec![0; CONTEXT_SIZE], [room(), room(), room()]);
-        Lent { frames, context, list: room(), lists, sizes: [0; 3] }
+        Lent { frames, context, list: room(), lists, sizes: [0; 3], totals: [0; 2] }
     }
 
     pub fn fresh(&mut self) -> u8 {
@@ -58,6 +59,11 @@ impl Lent {
 
     pub fn whole(&mut self) -> [u8; 3] {
         [self.fresh(), self.serve(), self.build()]
+    }
+
+    /// The whole run as one call: the first list alone.
+    pub fn run(&mut self) -> u8 {
+        run(&self.frames, &mut self.list, &mut self.totals)
     }
 
     /// The lists of a build, cut to their sizes.
@@ -86,6 +92,11 @@ fn original_whole(pool: &Pool, requests: &[Request]) -> Work {
     })
 }
 
+fn port_run(pool: &Pool, requests: &[Request]) -> Work {
+    let mut lent = Lent::new(pool, requests);
+    Box::new(move || timed(|| lent.run()))
+}
+
 fn port_whole(pool: &Pool, requests: &[Request]) -> Work {
     let mut lent = Lent::new(pool, requests);
     Box::new(move || timed(|| lent.whole()))
@@ -103,14 +114,17 @@ fn check_lists(pool: &Pool, requests: &[Request]) {
         let bytes = |section| StepBytes::of(section).expect("a step").bytes().to_vec();
         assert!(steps.eq(expected.iter().map(bytes)), "the lists differ");
     }
+    assert_eq!(lent.run(), 0);
+    assert_eq!(lent.totals, [lent.sizes[0], segment.tmp_used]);
+    assert!(lent.list.starts_with(&lent.built()[0]), "the whole run's list differs");
 }
 
-/// Fresh, all requests in one call, and a build.
+/// The whole run in one call.
 fn whole(title: String, pool: &Pool, requests: &[Request]) -> Pair {
     check_lists(pool, requests);
     Pair {
         title,
-        port: port_whole(pool, requests),
+        port: port_run(pool, requests),
         original: original_whole(pool, requests),
         aim: Some(AIM),
         units: (pool.nodes().len() as u64, "node"),
@@ -203,9 +217,18 @@ fn random_whole() -> Pair {
     whole(title, &pool, &requests)
 }
 
+/// The same with a context that is kept, and all three lists.
+fn in_three_calls() -> Pair {
+    let (pool, requests) = random_run();
+    let port = port_whole(&pool, &requests);
+    let title = "the same in three calls, with all three lists".to_string();
+    Pair { port, ..whole(title, &pool, &requests) }
+}
+
 pub fn cases() -> Vec<Case> {
     vec![
         Case::new("whole", random_whole),
+        Case::new("lists", in_three_calls),
         Case::new("request", one_request),
         Case::new("one-by-one", one_by_one),
         Case::new("regular", || grown(MAX_NODES)),
