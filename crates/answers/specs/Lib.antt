@@ -4,5 +4,7 @@ pub mod Exact
 pub mod ExactPlans
 pub mod ConstraintWays
 pub mod ExactConstraint
+pub mod PolynomialWays
+pub mod ExactPolynomial
 pub mod Numbers
 pub mod ListBytes

@@ -26,6 +26,10 @@ use Rattle.dimensions.specs.Conditions.{SourceRefused, SourcesRefused, StepRefu
 use Rattle.search_meaning.specs.SearchCases.{Row}
 use Rattle.records.specs.declared.PolType.{PolType}
 use Rattle.constraint_frames.specs.Extension.{Question}
+use Rattle.search_meaning.specs.Search.{Choice}
+use Rattle.constraint_build.specs.Both.{Lent}
+use Rattle.starkinfo_cp_prover.specs.declared.answer.Before.{Before}
+use Rattle.answers.specs.PolynomialWays.{Listed, Chosen, Generated, ConstraintRead}
 use Rattle.answers.specs.ConstraintWays.{MarkWay, CloseWay, Extended, ExtendRead}
 use Rattle.answers.specs.Ways.{OfFrames, OfPool, OfPlan, FreshWay, Served, ServeRead, Built, BuildRead, Ran, Evaluated, EvaluateRead, Mapped, Fixed, Queried, Dimensioned, SectionWay}
 
@@ -65,6 +69,9 @@ closeNumbers = 0 ∷ 1 ∷ 8 ∷ 9 ∷ []
 
 abbrev pub extendNumbers : List ℕ
 extendNumbers = 0 ∷ 1 ∷ 2 ∷ 3 ∷ 4 ∷ 9 ∷ 11 ∷ 17 ∷ []
+
+abbrev pub constraintNumbers : List ℕ
+constraintNumbers = 0 ∷ 1 ∷ 2 ∷ 3 ∷ 4 ∷ 5 ∷ 6 ∷ 9 ∷ 11 ∷ 13 ∷ 14 ∷ 15 ∷ 16 ∷ 17 ∷ []
 
 abbrev pub sectionNumbers : List ℕ
 sectionNumbers = 0 ∷ 1 ∷ 9 ∷ []
@@ -242,6 +249,37 @@ extended-has q room i k (Extended.extended o w l r) = refl
 pub extend-has : (w : List ℕ) (q : Question) (room : ℕ) (i : Input) (k : ℕ) → ExtendRead w q room i k → among k extendNumbers ≡ true
 extend-has w q room i k (ExtendRead.badSet e) = refl
 extend-has w q room i k (ExtendRead.goodSet e c) = pool-has extendNumbers (poolOf i) (λ a. Extended q room i) refl refl refl (λ a. extended-has q room i) k c
+
+module _ (ids : List ℕ) (vc b e limit : ℕ) (c : Before) (u v : Lent) (room : ℕ) (i : Input) where
+  listed-has : (x : Choice) (k : ℕ) → Listed ids vc b e limit c u v room i x k → among k constraintNumbers ≡ true
+  listed-has x k (Listed.member d) = refl
+  listed-has x k (Listed.constraint s p d) = refl
+  listed-has x k (Listed.full s t p q r) = refl
+  listed-has x k (Listed.made s t p q r) = refl
+
+  chosen-has : (x : Choice) (k : ℕ) → Chosen ids vc b e limit c u v room i x k → among k constraintNumbers ≡ true
+  chosen-has x k (Chosen.past h) = refl
+  chosen-has x k (Chosen.counts h l) = refl
+  chosen-has x k (Chosen.kept h l w) = listed-has x k w
+
+  searched-has : (a : Acyclic (forest (poolOf i))) (k : ℕ) → Row (forest (poolOf i)) a ids vc b e limit k → among k constraintNumbers ≡ true
+  searched-has a k (Row.noIdentity q h) = rw q
+  searched-has a k (Row.bits q s h) = rw q
+  searched-has a k (Row.notThere q s r h) = rw q
+  searched-has a k (Row.overLimit q r l) = rw q
+  searched-has a k (Row.badKind q n w h) = rw q
+  searched-has a k (Row.noSet q n h) = rw q
+  searched-has a k (Row.noQuotient q n r t h z) = rw q
+  searched-has a k (Row.chosen q n r t h z) = rw q
+
+  generated-has : (a : Acyclic (forest (poolOf i))) (k : ℕ) → Generated ids vc b e limit c u v room i a k → among k constraintNumbers ≡ true
+  generated-has a k (Generated.unchosen z r) = searched-has a k r
+  generated-has a k (Generated.chosen x q w) = chosen-has x k w
+
+  pub constraint-has : (k : ℕ) → ConstraintRead ids vc b e limit c u v room i k → among k constraintNumbers ≡ true
+  constraint-has k (ConstraintRead.badContext n) = refl
+  constraint-has k (ConstraintRead.badSecond g n) = refl
+  constraint-has k (ConstraintRead.good g h w) = pool-has constraintNumbers (poolOf i) (Generated ids vc b e limit c u v room i) refl refl refl generated-has k w
 
 pub section-has : (rs : List PolType) (a b c room k : ℕ) → SectionWay rs a b c room k → among k sectionNumbers ≡ true
 section-has rs a b c room k (SectionWay.malformed h) = refl

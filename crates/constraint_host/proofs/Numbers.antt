@@ -60,4 +60,5 @@ constraint-numbered s a u v o w f z u′ v′ o′ w′ f′ z′ r n g e h k =
       stands = g .tells .stands;
       found = h ∙ ap (λ t. foundTold t f) (g .tells .says);
       totals = k ∙ ap (λ t. totalsTold t z) (g .tells .says);
+      back = g .back;
     }

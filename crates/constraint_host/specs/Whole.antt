@@ -2,14 +2,19 @@
 -- Assumes nothing: these are definitions.
 use Prim.Native.Nat.{ℕ}
 use mathlib.Core.Path.{_≡_}
-use mathlib.Core.List.{List}
+use mathlib.Core.List.{List, []}
 use lib.ListN.{length, set}
 use Rattle.meaning.specs.Refusals.{Answer, done, refused, answerNo, _then_}
+use Rattle.frames.specs.Order.{Input}
 use Rattle.frames.specs.Reading.{reading}
+use Rattle.pool.specs.Verdict.{Verdict}
+use Rattle.pool.specs.Numbered.{poolOf}
+use Rattle.search_meaning.specs.Search.{Choice}
 use Rattle.constraint_meaning.specs.Constraint.{Asked}
+use Rattle.constraint_frames.specs.Extension.{Back}
 use Rattle.constraint_build.specs.Both.{Lent}
 use Rattle.constraint_build.specs.declared.answer.Sizes.{Sizes}
-use Rattle.starkinfo_cp_prover.specs.Polynomial.{Polynomial, Runs, Told, toldOf, Stands}
+use Rattle.starkinfo_cp_prover.specs.Polynomial.{Polynomial, questionOf, Runs, Told, toldOf, Stands, Accepts}
 use Rattle.starkinfo_cp_prover.specs.declared.answer.Before.{Before}
 
 abbrev pub before : ℕ → ℕ → ℕ → Before
@@ -37,3 +42,5 @@ pub record ConstraintNumbered (s : List ℕ) (a : Asked) (u v : Lent) (o w f z :
   pub stands : Stands answer u v o w u′ v′ o′ w′
   pub found : f′ ≡ foundTold (answer then λ y. done (toldOf y)) f
   pub totals : z′ ≡ totalsTold (answer then λ y. done (toldOf y)) z
+  -- where a set is chosen and the limits and counts are kept: the pool with the constraint is admitted, stands for the extended forest, and its frames are read as it
+  pub back : (i : Input) → reading s ≡ done i → Verdict (poolOf i) [] (done tt) → (x : Choice) → Accepts (poolOf i) a x → Back (poolOf i) (questionOf a x)

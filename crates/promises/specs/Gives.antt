@@ -12,9 +12,10 @@ use Rattle.search_meaning.specs.SearchCases.{Row}
 use Rattle.answers.specs.Ways.{OfPool, ServeRead, BuildRead, Ran, EvaluateRead, Mapped, Fixed, Queried, Dimensioned}
 use Rattle.sets.specs.Members.{members}
 use Rattle.constraint_frames.specs.Extension.{asking}
+use Rattle.answers.specs.PolynomialWays.{ConstraintRead}
 use Rattle.answers.specs.ConstraintWays.{ExtendRead}
 use Rattle.promises.specs.Rows.{Call, Holds, rows}
-use Rattle.answers.specs.Numbers.{among, freshNumbers, serveNumbers, buildNumbers, runNumbers, evaluateNumbers, mapNumbers, searchNumbers, sectionNumbers, markNumbers, closeNumbers, extendNumbers, mark-has, close-has, extend-has, walkNumbers, build-has, dimensioned-has, evaluate-has, fixed-has, frames-has, fresh-has, mapped-has, maps-plan, plan-has, pool-has, queried-has, ran-has, row-has, section-has, serve-has, walks-plan}
+use Rattle.answers.specs.Numbers.{among, freshNumbers, serveNumbers, buildNumbers, runNumbers, evaluateNumbers, mapNumbers, searchNumbers, sectionNumbers, markNumbers, closeNumbers, extendNumbers, constraintNumbers, constraint-has, mark-has, close-has, extend-has, walkNumbers, build-has, dimensioned-has, evaluate-has, fixed-has, frames-has, fresh-has, mapped-has, maps-plan, plan-has, pool-has, queried-has, ran-has, row-has, section-has, serve-has, walks-plan}
 
 -- ── the statement ────────────────────────────────────────────────────────────
 abbrev pub numbers : {n : ℕ} → Call n → List ℕ
@@ -32,6 +33,7 @@ numbers (Call.search vc s es b e limit w w′ z z′ h) = searchNumbers
 numbers (Call.mark es m x x′ l h) = markNumbers
 numbers (Call.close m x x′ l l′ h) = closeNumbers
 numbers (Call.constraintPool s ids w vc c o o′ z z′ h) = extendNumbers
+numbers (Call.constraint s ids vc b e limit c u u′ v v′ o o′ w w′ f f′ z z′ h) = constraintNumbers
 numbers (Call.mapSection rs rs′ ss ss′ ds ds′ ps ps′ ws ws′ h) = sectionNumbers
 
 -- ── the proof ────────────────────────────────────────────────────────────────
@@ -52,6 +54,8 @@ way-has (Call.search vc s es b e limit w w′ z z′ h) k v =
 way-has (Call.mark es m x x′ l h) k v = mark-has es m x l k v
 way-has (Call.close m x x′ l l′ h) k v = close-has m x l k v
 way-has (Call.constraintPool s ids w vc c o o′ z z′ h) k v = frames-has extendNumbers s (ExtendRead w (asking ids (members w) vc c) _) refl refl (extend-has w (asking ids (members w) vc c) _) k v
+way-has (Call.constraint s ids vc b e limit c x x′ y y′ o o′ w w′ f f′ z z′ h) k v =
+    frames-has constraintNumbers s (ConstraintRead ids vc b e limit c _ _ _) refl refl (constraint-has ids vc b e limit c _ _ _) k v
 way-has (Call.mapSection rs rs′ ss ss′ ds ds′ ps ps′ ws ws′ h) k v = section-has rs _ _ _ _ k v
 
 -- NO OTHER NUMBER

@@ -1,5 +1,6 @@
 -- ONLY ONE OUTCOME FITS what each exported function promises: for the same inputs the number is the same, and so is all that is lent after it.
--- Three are stated of what a slice holds, since a contract speaks of numbers: the list after `serve` and `close` of bytes, the set after `search` of 64-bit words. Nothing is left open.
+-- Four are stated of what a slice holds, since a contract speaks of numbers: the list after `serve` and `close` and both lists after `constraint` of bytes, the set after `search` and
+-- `constraint` of 64-bit words. Nothing is left open.
 -- Assumes nothing.
 use Prim.Native.Nat.{ℕ, _^_, _<_}
 use mathlib.Core.Path.{_≡_, sym, _∙_, ap, subst}
@@ -7,6 +8,7 @@ use mathlib.Core.Bool.{Bool, true}
 use mathlib.Core.List.{List, [], _∷_}
 use lib.ListN.{length, getD}
 use Rattle.meaning.specs.Refusals.{Answer, done, refused, answerNo, _then_}
+use Rattle.meaning.specs.Trees.{Forest}
 use Rattle.meaning.specs.Building.{Segment}
 use Rattle.frames.specs.Reading.{reading}
 use Rattle.frames.specs.Taking.{Bytes}
@@ -46,6 +48,14 @@ use Rattle.constraint_frames.specs.Extension.{Extension, roomAfter}
 use Rattle.constraint_frames.specs.Unique as constraint
 use Rattle.constraint_host.specs.Numbered.{MarkNumbered, CloseNumbered, PoolNumbered, numbersTold}
 use Rattle.constraint_host.specs.Exactly.{one-marked, one-closed}
+use Rattle.constraint_meaning.specs.Constraint.{Asked}
+use Rattle.constraint_lists.specs.Lists.{Written}
+use Rattle.constraint_build.specs.Both.{Lent, lent}
+use Rattle.starkinfo_cp_prover.specs.Polynomial as polynomial
+use Rattle.starkinfo_cp_prover.specs.Polynomial.{Polynomial, toldOf}
+use Rattle.starkinfo_cp_prover.specs.Unique as unique
+use Rattle.constraint_host.specs.Whole as whole
+use Rattle.constraint_host.specs.Whole.{ConstraintNumbered, foundTold}
 use Rattle.answers.specs.ListBytes.{one-list}
 use Rattle.promises.specs.OneList.{nthOf}
 
@@ -203,3 +213,45 @@ one-constraint-pool s ids w vc c o z g h =
       g .room ∙ ap (roomAfter o) e ∙ sym (h .room),
       g .told ∙ ap (λ (a : Answer Extension). numbersTold (a then λ x. done (x .numbers)) z) e ∙ sym (h .told),
     )
+
+-- ── the constraint polynomial in one call ────────────────────────────────────
+-- a context, its list and three lists after they were written: one of each, where the list holds bytes
+same-written :
+    {E : Forest} {u u₁ u₂ : Lent} {st : Said} → Written E (u .context) (u .list) (u .lists) st (u₁ .context) (u₁ .list) (u₁ .lists) →
+    Written E (u .context) (u .list) (u .lists) st (u₂ .context) (u₂ .list) (u₂ .lists) → Bytes (u₁ .list) → Bytes (u₂ .list) → u₁ ≡ u₂
+same-written {E} {u} {u₁} {u₂} a b p q =
+    ap (λ x. lent x (u₁ .list) (u₁ .lists)) (a .context ∙ sym (b .context)) ∙ ap (λ l. lent (u₂ .context) l (u₁ .lists)) (one-list (a .list) (b .list) p q)
+    ∙ ap (λ (o : Lists). lent (u₂ .context) (u₂ .list) o) (a .built ∙ sym (b .built))
+
+-- what holds bytes and words after a call: both lists of steps, and the set
+pub record Held (u v : Lent) (w : List ℕ) : Type 0 where
+  pub list : Bytes (u .list)
+  pub list-2ns : Bytes (v .list)
+  pub set : Words w
+
+-- enonkasse_constraint: the number, both contexts with their lists and the three lists of each, the frames, the set's words, q with the visits, and the sizes
+pub one-constraint :
+    (s : List ℕ) (a : Asked) (u v : Lent) (o w f z : List ℕ) {u₁ u₂ v₁ v₂ : Lent} {o₁ o₂ w₁ w₂ f₁ f₂ z₁ z₂ : List ℕ} {n₁ n₂ : ℕ} →
+    ConstraintNumbered s a u v o w f z u₁ v₁ o₁ w₁ f₁ z₁ n₁ → ConstraintNumbered s a u v o w f z u₂ v₂ o₂ w₂ f₂ z₂ n₂ → Held u₁ v₁ w₁ → Held u₂ v₂ w₂ →
+    (n₁ ≡ n₂) × (u₁ ≡ u₂) × (v₁ ≡ v₂) × (o₁ ≡ o₂) × (w₁ ≡ w₂) × (f₁ ≡ f₂) × (z₁ ≡ z₂)
+one-constraint s a u v o w f z {u₁} {u₂} {v₁} {v₂} {o₁} {o₂} {w₁} {w₂} g h p q =
+    let e = unique.one-run (reading s) a u v (length o) (g .answer) (h .answer) (g .runs) (h .runs) in
+    let y = same (g .answer) (g .stands) (subst (λ (x : Answer Polynomial). polynomial.Stands x u v o w u₂ v₂ o₂ w₂) (sym e) (h .stands)) in (
+      g .number ∙ ap answerNo e ∙ sym (h .number),
+      y .0,
+      y .1,
+      y .2,
+      y .3,
+      g .found ∙ ap (λ (x : Answer Polynomial). foundTold (x then λ y. done (toldOf y)) f) e ∙ sym (h .found),
+      g .totals ∙ ap (λ (x : Answer Polynomial). whole.totalsTold (x then λ y. done (toldOf y)) z) e ∙ sym (h .totals),
+    )
+  where
+    same :
+        (x : Answer Polynomial) → polynomial.Stands x u v o w u₁ v₁ o₁ w₁ → polynomial.Stands x u v o w u₂ v₂ o₂ w₂ → (u₁ ≡ u₂) × (v₁ ≡ v₂) × (o₁ ≡ o₂) × (w₁ ≡ w₂)
+    same (done y) c d = (
+      same-written {u = u} {u₁ = u₁} {u₂ = u₂} (c .0 .step3) (d .0 .step3) (p .list) (q .list),
+      same-written {u = v} {u₁ = v₁} {u₂ = v₂} (c .0 .step42ns) (d .0 .step42ns) (p .list-2ns) (q .list-2ns),
+      c .0 .frames ∙ sym (d .0 .frames),
+      words-same w₁ w₂ (c .1 .good) (d .1 .good) (c .1 .is ∙ sym (d .1 .is)) (p .set) (q .set),
+    )
+    same (refused k i) c d = (c .0 ∙ sym (d .0), c .1 ∙ sym (d .1), c .2 ∙ sym (d .2), c .3 ∙ sym (d .3))

@@ -1,20 +1,23 @@
 -- THE REFUSAL TABLE: whatever exported function is called, and with whatever it is lent, the number is k exactly when row k of document 01's table holds of the call.
--- The conditions stand in `Ways.antt` and `ConstraintWays.antt` of `answers`, a way for each; where to look for a row:
+-- The conditions stand in `Ways.antt`, `ConstraintWays.antt` and `PolynomialWays.antt` of `answers`, a way for each; where to look for a row:
 --   1  frames `OfFrames.malformed`; result and context `ServeRead.badResult`, `badContext`, `BuildRead.badContext`; `FreshWay.malformed`; list, modulus and values
---      `EvaluateRead.illFormed`; plan and lists `plan.Way.noPlan`, `illFormed`; records `SectionWay.malformed`; `MarkWay.badContext`, `CloseWay.badContext`, `ExtendRead.badSet`
+--      `EvaluateRead.illFormed`; plan and lists `plan.Way.noPlan`, `illFormed`; records `SectionWay.malformed`; `MarkWay.badContext`, `CloseWay.badContext`, `ExtendRead.badSet`;
+--      `ConstraintRead.badContext`, `badSecond`
 --   2  `OfPool.childCount`, `plan.Way.childCount`
 --   3  `OfPool.lost`, `plan.Way.lost`; of a request `Served.lost`, `Ran.lost`; of a list `Fixed.notThere`, `Queried.notThere`, `Dimensioned.met`; of an identity `Row.notThere`, `Extended.lost`; of a member `MarkWay.lost`
 --   4  `OfPool.cycle`, `plan.Way.cycle`
---   5  `Served.doublePrime`, `Ran.doublePrime`
+--   5  `Served.doublePrime`, `Ran.doublePrime`; `Listed.member`, `Listed.constraint`
 --   6  `Row.badKind`
 --   7  `Served.noPrimedMark`           8  `Served.noBlock`, `CloseWay.noBlock`
---   9  frames `OfFrames.past`; no room `Served.full`, `Built.full`, `Ran.full`, `Evaluated.full`, `Mapped.full`, `Fixed.full`, `SectionWay.full`; `plan.Way.tooMany`; `MarkWay.full`, `CloseWay.past`, `full`, `Extended.past`, `full`
+--   9  frames `OfFrames.past`; no room `Served.full`, `Built.full`, `Ran.full`, `Evaluated.full`, `Mapped.full`, `Fixed.full`, `SectionWay.full`; `plan.Way.tooMany`; `MarkWay.full`, `CloseWay.past`, `full`, `Extended.past`, `full`;
+--      `Chosen.past`, `Listed.full`
 --   10 `Evaluated.noRule`, `Fixed.noRule`, `Queried.noRule`, `Dimensioned.met`
---   11 `plan.Way.counts`, `Extended.counts`
+--   11 `plan.Way.counts`, `Extended.counts`, `Chosen.counts`
 --   12 `plan.Way.undimensioned`, `Dimensioned.met`
 --   13 `Row.noSet`                     14 `Row.noQuotient`
 --   15 `Row.overLimit`                 16 `plan.Way.bits`, `Row.bits`
 --   17 `Row.noIdentity`, `Extended.noIdentity`
+-- The rows of a search, `Row`, are also those of the constraint polynomial's search: `Generated.unchosen`.
 -- Assumes nothing.
 use Prim.Native.Nat.{ℕ}
 use mathlib.Core.Path.{_≡_, refl, sym, _∙_}
@@ -40,6 +43,12 @@ use Rattle.sets.specs.Members.{members}
 use Rattle.constraint_pool.specs.declared.judge.Columns.{Columns}
 use Rattle.constraint_frames.specs.Extension.{asking}
 use Rattle.constraint_host.specs.Numbered.{MarkNumbered, CloseNumbered, PoolNumbered}
+use Rattle.constraint_build.specs.Both.{Lent}
+use Rattle.starkinfo_cp_prover.specs.Polynomial.{asked}
+use Rattle.starkinfo_cp_prover.specs.declared.answer.Before.{Before}
+use Rattle.constraint_host.specs.Whole.{ConstraintNumbered}
+use Rattle.answers.specs.PolynomialWays.{ConstraintWay}
+use Rattle.answers.specs.ExactPolynomial.{of-constraint}
 use Rattle.answers.specs.ConstraintWays.{MarkWay, CloseWay, ExtendWay}
 use Rattle.answers.specs.ExactConstraint.{of-mark, of-close, of-extend}
 use Rattle.answers.specs.Ways.{FreshWay, ServeWay, BuildWay, RunWay, EvaluateWay, MapWay, FixWay, QueryWay, DimensionWay, FirstWay, SearchWay, SectionWay}
@@ -64,6 +73,9 @@ pub data Call (n : ℕ) : Type 0 where
   mark : (es : List ℕ) (m : ℕ) (x x′ l : List ℕ) → MarkNumbered es m x x′ l n → Call n
   close : (m : ℕ) (x x′ l l′ : List ℕ) → CloseNumbered m x x′ l l′ n → Call n
   constraintPool : (s ids w : List ℕ) (vc : ℕ) (c : Columns) (o o′ z z′ : List ℕ) → PoolNumbered s ids w vc c o o′ z z′ n → Call n
+  constraint :
+      (s ids : List ℕ) (vc b e limit : ℕ) (c : Before) (u u′ v v′ : Lent) (o o′ w w′ f f′ z z′ : List ℕ) →
+      ConstraintNumbered s (asked ids vc b e limit c) u v o w f z u′ v′ o′ w′ f′ z′ n → Call n
   mapSection : (rs rs′ : List PolType) (ss ss′ ds ds′ ps ps′ ws ws′ : List ℕ) → RecordsMapped rs rs′ ss ss′ ds ds′ ps ps′ ws ws′ n → Call n
 
 -- ROW k HOLDS of a call
@@ -82,6 +94,7 @@ Holds (Call.search vc s es b e limit w w′ z z′ h) k = SearchWay s es vc b e 
 Holds (Call.mark es m x x′ l h) k = MarkWay es m x l k
 Holds (Call.close m x x′ l l′ h) k = CloseWay m x l k
 Holds (Call.constraintPool s ids w vc c o o′ z z′ h) k = ExtendWay s w (asking ids (members w) vc c) (length o) k
+Holds (Call.constraint s ids vc b e limit c u u′ v v′ o o′ w w′ f f′ z z′ h) k = ConstraintWay s ids vc b e limit c u v (length o) k
 Holds (Call.mapSection rs rs′ ss ss′ ds ds′ ps ps′ ws ws′ h) k = SectionWay rs (length ss) (length ds) (length ps) (length ws) k
 
 -- ── the proof ────────────────────────────────────────────────────────────────
@@ -125,6 +138,7 @@ rows (Call.search vc s es b e limit w w′ z z′ h) k = told (h vc .0) (h vc .2
 rows (Call.mark es m x x′ l h) k = told (h .0) (h .2) (of-mark es m x l (h .0) (h .1) k)
 rows (Call.close m x x′ l l′ h) k = told (h .0) (h .2) (of-close m x l (h .0) (h .1) k)
 rows (Call.constraintPool s ids w vc c o o′ z z′ h) k = told (h .answer) (h .number) (of-extend s w (asking ids (members w) vc c) (length o) (h .answer) (h .runs) k)
+rows (Call.constraint s ids vc b e limit c u u′ v v′ o o′ w w′ f f′ z z′ h) k = told (h .answer) (h .number) (of-constraint s ids vc b e limit c u v (length o) (h .answer) (h .runs) (h .back) k)
 rows (Call.mapSection rs rs′ ss ss′ ds ds′ ps ps′ ws ws′ h) k = told (recordsMapping rs (length ss) (length ds) (length ps) (length ws)) (h .says) (of-section rs (length ss) (length ds) (length ps) (length ws) k)
 
 -- EVERY CALL HAS A ROW, and no call has two

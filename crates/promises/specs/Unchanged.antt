@@ -38,6 +38,12 @@ use Rattle.constraint_pool.specs.declared.judge.Columns.{Columns}
 use Rattle.constraint_pieces.specs.Marking.{StandsMarked}
 use Rattle.constraint_frames.specs.Extension.{Extension, roomAfter}
 use Rattle.constraint_host.specs.Numbered.{MarkNumbered, CloseNumbered, PoolNumbered, numbersTold}
+use Rattle.constraint_meaning.specs.Constraint.{Asked}
+use Rattle.constraint_build.specs.Both.{Lent}
+use Rattle.starkinfo_cp_prover.specs.Polynomial as polynomial
+use Rattle.starkinfo_cp_prover.specs.Polynomial.{Polynomial, toldOf}
+use Rattle.constraint_host.specs.Whole as whole
+use Rattle.constraint_host.specs.Whole.{ConstraintNumbered, foundTold}
 use Rattle.promises.specs.OneList.{nthOf}
 
 -- 0, or the number of a refusal
@@ -256,3 +262,22 @@ module _ (s ids w : List ℕ) (vc : ℕ) (c : Columns) (o z : List ℕ) {o′ z�
   unchanged-constraint-pool y =
       let r = is-refused (h .answer) (h .number) y in
       (h .room ∙ ap (roomAfter o) (r .2), h .told ∙ ap (λ (a : Answer Extension). numbersTold (a then λ x. done (x .numbers)) z) (r .2))
+
+-- ── the constraint polynomial in one call ────────────────────────────────────
+module _ (s : List ℕ) (a : Asked) (u v : Lent) (o w f z : List ℕ) {u′ v′ : Lent} {o′ w′ f′ z′ : List ℕ} {n : ℕ} (h : ConstraintNumbered s a u v o w f z u′ v′ o′ w′ f′ z′ n) where
+  -- enonkasse_constraint
+  pub answered-constraint : Answered n
+  answered-constraint = numbered (h .answer) (h .number)
+
+  -- refused, both contexts with their lists, the room, the set, the two words and the sizes are what they were
+  pub unchanged-constraint : (n ≡ 0 → ⊥) → (u′ ≡ u) × (v′ ≡ v) × (o′ ≡ o) × (w′ ≡ w) × (f′ ≡ f) × (z′ ≡ z)
+  unchanged-constraint y =
+      let r = is-refused (h .answer) (h .number) y in
+      let c : (u′ ≡ u) × (v′ ≡ v) × (o′ ≡ o) × (w′ ≡ w) = subst (λ (x : Answer Polynomial). polynomial.Stands x u v o w u′ v′ o′ w′) (r .2) (h .stands) in (
+        c .0,
+        c .1,
+        c .2,
+        c .3,
+        h .found ∙ ap (λ (x : Answer Polynomial). foundTold (x then λ y. done (toldOf y)) f) (r .2),
+        h .totals ∙ ap (λ (x : Answer Polynomial). whole.totalsTold (x then λ y. done (toldOf y)) z) (r .2),
+      )
