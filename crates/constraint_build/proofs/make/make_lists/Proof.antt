@@ -26,13 +26,13 @@ make-planned-requires : tie.Need-make-planned-requires
 make-planned-requires c κs = let S = c .before .before .before .before .before .before .before .before .before .before .before .before .before .before .before .before .before .before .before .before .before .before .before .before .before .before .before .before .before .before .before .before .before .before .before in (S .pre, first-planned (S .pre) (S .args .out .now) (c .before .before .before .before .before .before .before .before .before .before .before .before .before .before .before .before .before .plan-list .last .1 .1 .1 .1 .1 .0) (c .before .before .before .before .before .before .before .before .before .before .before .before .before .before .before .before .before .plan-list .last .1 .1 .1 .1 .1 .1 .0) (c .before .before .before .before .before .before .before .before .before .before .before .before .before .before .before .before .before .plan-list .last .1 .1 .1 .1 .1 .1 .1 .0) (c .before .before .before .before .before .before .before .before .before .before .before .before .before .before .before .before .before .plan-list .result) (c .before .before .before .before .before .before .before .before .before .before .before .before .before .before .before .before .before .plan-list .ensures _ (S .pre .acyclic) _ (asks (S .pre))) (c .before .before .before .before .before .before .before .before .before .before .before .before .before .before .before .n .given .1))
 
 same-length : tie.Need-same-length
-same-length c = search needs
+same-length c = refl
 
 returns : tie.Need-returns
 returns c = let S = c .before .before .before .before .before .before .before .before .before .before .before .before .before .before .before .before .before .before .before .before in first-lost (S .pre) (S .args .out .now) (c .before .before .plan-list .last .1 .1 .1 .1 .1 .0) (c .before .before .plan-list .last .1 .1 .1 .1 .1 .1 .0) (c .before .before .plan-list .last .1 .1 .1 .1 .1 .1 .1 .0) (c .before .before .plan-list .result) (c .before .before .plan-list .ensures _ (S .pre .acyclic) _ (asks (S .pre))) (c .enum-told .given .1)
 
 same-length-2 : tie.Need-same-length-2
-same-length-2 c = search needs
+same-length-2 c = refl
 
 returns-2 : tie.Need-returns-2
 returns-2 c = let S = c .before .before .before .before .before .before .before .before .before .before .before .before .before .before .before .before .before .before .before .before .before in first-primed (S .pre) (S .args .out .now) (c .before .before .before .plan-list .last .1 .1 .1 .1 .1 .0) (c .before .before .before .plan-list .last .1 .1 .1 .1 .1 .1 .0) (c .before .before .before .plan-list .last .1 .1 .1 .1 .1 .1 .1 .0) (c .before .before .before .plan-list .result) (c .before .before .before .plan-list .ensures _ (S .pre .acyclic) _ (asks (S .pre))) (c .before .k .given .1)
@@ -59,16 +59,16 @@ same-length-9 : tie.Need-same-length-9
 same-length-9 c = c .before .before .before .before .before .before .before .before .before .before .before .before .before .before .before .before .before .before .before .before .before .before .make-planned .kept .1 .1 .1 .1 .1 .1 .1 .1 .1 .1 .1 .1 .1 .1 .0
 
 same-length-10 : tie.Need-same-length-10
-same-length-10 c = search needs
+same-length-10 c = c .before .before .before .before .before .before .before .before .before .before .before .before .before .before .before .before .before .before .before .before .before .before .make-planned .kept .1 .1 .1 .1 .1 .1 .1 .1 .1 .1 .1 .1 .1 .1 .1 .0
 
 same-length-11 : tie.Need-same-length-11
-same-length-11 c = search needs
+same-length-11 c = c .before .before .before .before .before .before .before .before .before .before .before .before .before .before .before .before .before .before .before .before .before .before .make-planned .kept .1 .1 .1 .1 .1 .1 .1 .1 .1 .1 .1 .1 .1 .1 .1 .1 .0
 
 same-length-12 : tie.Need-same-length-12
-same-length-12 c = search needs
+same-length-12 c = c .before .before .before .before .before .before .before .before .before .before .before .before .before .before .before .before .before .before .before .before .before .before .make-planned .kept .1 .1 .1 .1 .1 .1 .1 .1 .1 .1 .1 .1 .1 .1 .1 .1 .1 .0
 
 same-length-13 : tie.Need-same-length-13
-same-length-13 c = search needs
+same-length-13 c = c .before .before .before .before .before .before .before .before .before .before .before .before .before .before .before .before .before .before .before .before .before .before .make-planned .kept .1 .1 .1 .1 .1 .1 .1 .1 .1 .1 .1 .1 .1 .1 .1 .1 .1 .1 .1 .1 .0
 
 returns-3 : tie.Need-returns-3
 returns-3 c = c .before .before .before .before .before .before .before .before .before .before .before .before .before .before .before .before .before .before .before .before .before .before .make-planned .ensures
