@@ -285,8 +285,9 @@ fn in_one_call(constraint: &Constraint) -> Result<Made, Stop> {
 }
 
 fn say(question: &Question) -> Said {
-    let Question::Constraint(constraint) = question else {
-        return Ok(None);
+    let constraint = match question {
+        Question::Constraint(constraint) => constraint,
+        Question::Search(_) => return Ok(None),
     };
     let pieces = told(in_pieces(constraint))?;
     let one_call = told(in_one_call(constraint))?;

@@ -141,7 +141,8 @@ impl Good {
     /// On two fresh contexts, with little room.
     fn lent_to_constraint(&self) -> Lent {
         let Lent { numbers, bytes, mut words, .. } = self.lent_to_search();
-        let [frames] = &bytes[..] else { unreachable!("a search is lent frames alone") };
+        // A search is lent frames alone.
+        let frames = &bytes[0];
         let (mut context, list) = (vec![0; CONTEXT_SIZE], vec![0; STEP_SIZE * ROOM]);
         library::fresh(&mut context);
         let out = vec![0; frames.len() + FRAMES_ROOM];
