@@ -1,6 +1,4 @@
 // A block: the steps up to the one that writes the cell of an expression, below that expression as the circuit wrote it.
-use crate::text::put_decimal;
-use crate::text::put_text;
 use crate::tree::SUM;
 use crate::tree::put_tree;
 use frames::count::EXPRESSION_LIMIT;
@@ -11,9 +9,11 @@ use kinds::kind::Kind;
 use kinds::reference::Reference;
 use kinds::step::nth_step;
 use starkinfo_codegen::words;
+use wording::text::put_decimal;
+use wording::text::put_text;
 ghost use Prim.Native.Nat.{_≤_};
 ghost use lib.ListN.{length};
-ghost use Rattle.readable.specs.Pages.{Puts};
+ghost use Rattle.wording.specs.Pages.{Puts};
 ghost use Rattle.readable.specs.Blocks.{EndAsked, EndGiven};
 
 // The last step of the block that begins at step `from`: the first from there on that writes an exp.

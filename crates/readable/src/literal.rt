@@ -1,12 +1,12 @@
 // A literal in decimal, with its sign.
-use crate::text::put_decimal;
-use crate::text::put_text;
 use frames::count::NODE_LIMIT;
 use frames::tables::NODE_WORDS;
 use output::line::literal_of;
+use wording::text::put_decimal;
+use wording::text::put_text;
 ghost use Prim.Native.Nat.{_≤_};
 ghost use lib.ListN.{length};
-ghost use Rattle.readable.specs.Pages.{Puts};
+ghost use Rattle.wording.specs.Pages.{Puts};
 
 // The literal that a node brings. Its minus has no space behind it, and so is no subtraction's.
 pub fn put_literal(

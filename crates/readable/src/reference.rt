@@ -1,14 +1,14 @@
 // The name of a reference: its kind, its number where its kind has one, and a prime where it is of the next row. A number is its value.
 use crate::literal::put_literal;
-use crate::text::put_decimal;
-use crate::text::put_text;
 use frames::count::NODE_LIMIT;
 use frames::tables::NODE_WORDS;
 use kinds::kind::Kind;
 use kinds::reference::Reference;
+use wording::text::put_decimal;
+use wording::text::put_text;
 ghost use Prim.Native.Nat.{_≤_};
 ghost use lib.ListN.{length};
-ghost use Rattle.readable.specs.Pages.{Puts};
+ghost use Rattle.wording.specs.Pages.{Puts};
 
 // The kinds that stand in a list before it is fixed.
 fn put_kind(page: &mut [u8], used: usize, kind: u8) -> usize

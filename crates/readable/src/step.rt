@@ -1,15 +1,15 @@
 // A step in infix: `3: tmp2 = cm0 * cm1'`.
 use crate::reference::put_reference;
-use crate::sign::put_sign;
-use crate::text::put_decimal;
-use crate::text::put_text;
 use frames::count::NODE_LIMIT;
 use frames::tables::NODE_WORDS;
 use kinds::step::Step;
 use kinds::step_op::StepOp;
+use wording::sign::put_sign;
+use wording::text::put_decimal;
+use wording::text::put_text;
 ghost use Prim.Native.Nat.{_≤_};
 ghost use lib.ListN.{length};
-ghost use Rattle.readable.specs.Pages.{Puts};
+ghost use Rattle.wording.specs.Pages.{Puts};
 
 // What a step computes.
 fn put_value(

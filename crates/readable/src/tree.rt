@@ -2,8 +2,6 @@
 // written as the sum or product that it is.
 use crate::literal::put_literal;
 use crate::reference::put_reference;
-use crate::sign::put_sign;
-use crate::text::put_text;
 use frames::count::NODE_LIMIT;
 use frames::tables::NODE_WORDS;
 use kinds::kind::Kind;
@@ -12,10 +10,12 @@ use starkinfo_codegen::words::first_child;
 use starkinfo_codegen::words::kind_of;
 use starkinfo_codegen::words::second_child;
 use starkinfo_codegen::words::third_child;
+use wording::sign::put_sign;
+use wording::text::put_text;
 ghost use mathlib.Core.Path.{_≡_};
 ghost use Prim.Native.Nat.{_≤_};
 ghost use lib.ListN.{length};
-ghost use Rattle.readable.specs.Pages.{Puts};
+ghost use Rattle.wording.specs.Pages.{Puts};
 ghost use Rattle.readable.specs.Binding.{binding, inBrackets, firstPlace, secondPlace};
 ghost use Rattle.readable.specs.Trees.{LeafAsked, TreeAsked};
 

@@ -10,7 +10,7 @@ use Rattle.readable.proofs.tree.put_tree.Kinds as put-tree-kinds
 use Rattle.readable.proofs.tree.+put_tree.Lts-put_tree as put-tree-lts
 use Rattle.kinds.proofs.kind.Kind.child_count.Reads as child-count-reads
 use Rattle.kinds.proofs.kind.Kind.is_leaf.Reads as is-leaf-reads
-use Rattle.readable.proofs.sign.put_sign.Reads as put-sign-reads
+use Rattle.wording.proofs.sign.put_sign.Reads as put-sign-reads
 use Rattle.readable.proofs.tree.first_place.Reads as first-place-reads
 use Rattle.readable.proofs.tree.put_close.Reads as put-close-reads
 use Rattle.readable.proofs.tree.put_leaf.Reads as put-leaf-reads

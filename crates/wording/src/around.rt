@@ -3,7 +3,7 @@ use crate::text::put_counted;
 use crate::text::put_text;
 ghost use Prim.Native.Nat.{_≤_};
 ghost use lib.ListN.{length};
-ghost use Rattle.readable.specs.Pages.{Puts};
+ghost use Rattle.wording.specs.Pages.{Puts};
 
 // Which end is the first, and what a prime says.
 pub fn put_opening(page: &mut [u8], used: usize) -> usize

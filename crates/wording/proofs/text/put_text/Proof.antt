@@ -1,12 +1,12 @@
--- `readable::text::put_text` is safe: what it puts fits the page. The measure is what is left of the text.
+-- `wording::text::put_text` is safe: what it puts fits the page. The measure is what is left of the text.
 -- Assumes nothing.
 use borrow.Author.Needs.{needs}
 use Prim.Native.Nat.{_+_, _-_, _≤_}
 use mathlib.Core.Path.{_≡_}
 use lib.ListN.{length}
 use native.Mathlib.Omega.{arith}
-use Rattle.readable.proofs.text.put_text.Statement.{statement}
-use Rattle.readable.proofs.text.put_text.Tie as tie
+use Rattle.wording.proofs.text.put_text.Statement.{statement}
+use Rattle.wording.proofs.text.put_text.Tie as tie
 
 abbrev Inv-loop : tie.InvT-loop
 Inv-loop page₀ used text i₀ page i = (i ≤ length text) × (used + length text ≤ length page) × (length page ≡ length page₀)

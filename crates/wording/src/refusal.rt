@@ -9,7 +9,7 @@ use kinds::refusal::MALFORMED;
 use kinds::refusal::NOT_THERE;
 ghost use Prim.Native.Nat.{_≤_};
 ghost use lib.ListN.{length};
-ghost use Rattle.readable.specs.Pages.{Puts};
+ghost use Rattle.wording.specs.Pages.{Puts};
 
 // Of a whole run's refusals; the last is that something is too large.
 fn put_meaning(page: &mut [u8], used: usize, number: u8) -> usize

@@ -1,7 +1,7 @@
 // Text put on a lent page, after what is used of it. Each function that puts something answers how much is used then.
 ghost use Prim.Native.Nat.{_≤_};
 ghost use lib.ListN.{length};
-ghost use Rattle.readable.specs.Pages.{Puts};
+ghost use Rattle.wording.specs.Pages.{Puts};
 
 // As many digits as the largest number of 64 bits has.
 const DIGITS: usize = 20;

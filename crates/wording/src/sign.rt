@@ -3,7 +3,7 @@ use crate::text::put_text;
 use kinds::kind::Kind;
 ghost use Prim.Native.Nat.{_≤_};
 ghost use lib.ListN.{length};
-ghost use Rattle.readable.specs.Pages.{Puts};
+ghost use Rattle.wording.specs.Pages.{Puts};
 
 // Of a muladd it is the one between its factors.
 pub fn put_sign(page: &mut [u8], used: usize, kind: u8) -> usize
