@@ -10,7 +10,22 @@ ghost use Prim.Native.Nat.{_≤_};
 ghost use lib.ListN.{length};
 ghost use Rattle.wording.specs.Pages.{Puts};
 
-// The kinds that stand in a list before it is fixed.
+// The kinds that are no cell of a row.
+fn put_fixed_kind(page: &mut [u8], used: usize, kind: u8) -> usize
+    requires { ⌜ used ≤ length (now page) ⌝ }
+    ensures { λ r. ⌜ Puts used r (length (now (page .exit))) ⌝ }
+{
+    match kind {
+        Kind::PUBLIC => put_text(page, used, b"public"),
+        Kind::CHALLENGE => put_text(page, used, b"challenge"),
+        Kind::EVAL => put_text(page, used, b"eval"),
+        Kind::X_DIV_X_SUB_XI => put_text(page, used, b"xDivXSubXi"),
+        Kind::X_DIV_X_SUB_WXI => put_text(page, used, b"xDivXSubWXi"),
+        _ => put_text(page, used, b"x"),
+    }
+}
+
+// The kinds that stand in a list before it is fixed, those of a row's cells first.
 fn put_kind(page: &mut [u8], used: usize, kind: u8) -> usize
     requires { ⌜ used ≤ length (now page) ⌝ }
     ensures { λ r. ⌜ Puts used r (length (now (page .exit))) ⌝ }
@@ -21,12 +36,7 @@ fn put_kind(page: &mut [u8], used: usize, kind: u8) -> usize
         Kind::CONST => put_text(page, used, b"const"),
         Kind::EXP => put_text(page, used, b"exp"),
         Kind::Q => put_text(page, used, b"q"),
-        Kind::PUBLIC => put_text(page, used, b"public"),
-        Kind::CHALLENGE => put_text(page, used, b"challenge"),
-        Kind::EVAL => put_text(page, used, b"eval"),
-        Kind::X_DIV_X_SUB_XI => put_text(page, used, b"xDivXSubXi"),
-        Kind::X_DIV_X_SUB_WXI => put_text(page, used, b"xDivXSubWXi"),
-        _ => put_text(page, used, b"x"),
+        _ => put_fixed_kind(page, used, kind),
     }
 }
 
