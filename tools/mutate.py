@@ -1,19 +1,21 @@
 #!/usr/bin/env python3
 """Try wrong programs: each must be refused.
 
-    tools/mutate.py [--stored | --seed N --edits N] [--crates a,b,..] [--log FILE]
+    tools/mutate.py [--stored | --seed N --edits N] [--crates a,b,..] [--jobs N] [--minutes N] [--log FILE]
 
 With --stored the edits that stand in crates/NAME/edits/*.edit (the form is that of must-fail/, which the gate tries); else small edits
 of crates/NAME/src picked at random, the same for the same seed: a constant changed, a test negated, an operator or two operands
-swapped, a number off by one, a call dropped. One at a time they are applied to a copy of the tree under target/mutate/, and `rt dev`
-checks the crate. It needs a tree that `rt check` proved. An edit is
+swapped, a number off by one, a call dropped. One at a time they are applied to a copy of the crates under target/mutate/, and `rt dev`
+checks the crate; the edits of a crate follow each other, and so many crates are at work at a time. It needs a tree that `rt check` proved. An edit is
   refused     the crate is no longer proved
   unwritable  the compiler does not take it as a program: it is no wrong program
   SURVIVED    it is still proved: a contract is too weak, or the edit changes nothing that a caller can see
   same        it survived, and tools/mutate_same.txt says why it changes nothing
+  untried     the minutes were over before its turn
 A line for each edit goes to standard output as it is tried, then the table by crate. The status is 1 where one SURVIVED."""
 import argparse
 import collections
+import concurrent.futures
 import glob
 import os
 import random
@@ -21,11 +23,12 @@ import re
 import shutil
 import subprocess
 import sys
+import time
 
 ROOT = os.path.dirname(os.path.dirname(os.path.abspath(__file__)))
-COPY = os.path.join(ROOT, "target", "mutate")
+COPIES = os.path.join(ROOT, "target", "mutate")
 SAME = os.path.join(ROOT, "tools", "mutate_same.txt")
-VERDICTS = ("refused", "same", "SURVIVED", "unwritable")
+VERDICTS = ("refused", "same", "SURVIVED", "unwritable", "untried")
 
 SWAPS = [("<=", "<"), (" < ", " <= "), (" == ", " != "), (" + ", " - "), (" - ", " + "), (" * ", " + "), (" / ", " * "), ("true", "false"), ("false", "true")]
 NO_CODE = re.compile(r"(//|use |ghost |pub use |mod |pub mod |requires |ensures |invariant |decreases |#\[)")
@@ -98,50 +101,69 @@ def stored_edits(crate):
         yield Edit(crate, os.path.basename(path)[: -len(".edit")], files)
 
 
-def make_copy():
-    shutil.rmtree(COPY, ignore_errors=True)
-    os.makedirs(os.path.join(COPY, "target"))
-    shutil.copytree(os.path.join(ROOT, "crates"), os.path.join(COPY, "crates"))
-    shutil.copy(os.path.join(ROOT, "crates.txt"), COPY)
-    for part in ("rlib", "stamp", "log"):
-        subprocess.run(["cp", "-a", os.path.join(ROOT, "target", part), os.path.join(COPY, "target", part)], check=True)
+def make_copy(crate):
+    """A tree with crates of its own, over the proofs that stand here."""
+    copy = os.path.join(COPIES, crate)
+    shutil.rmtree(copy, ignore_errors=True)
+    os.makedirs(os.path.join(copy, "target"))
+    shutil.copytree(os.path.join(ROOT, "crates"), os.path.join(copy, "crates"))
+    shutil.copy(os.path.join(ROOT, "crates.txt"), copy)
+    for part in ("stamp", "log"):
+        shutil.copytree(os.path.join(ROOT, "target", part), os.path.join(copy, "target", part))
+    os.symlink(os.path.join(ROOT, "target", "rlib"), os.path.join(copy, "target", "rlib"))
+    return copy
 
 
-def write_files(crate, files):
+def write_files(copy, crate, files):
     for file, text in files.items():
-        with open(os.path.join(COPY, "crates", crate, file), "w") as f:
+        with open(os.path.join(copy, "crates", crate, file), "w") as f:
             f.write(text)
 
 
-def dev(crate):
-    return subprocess.run(["rt", "dev", crate], cwd=COPY, stdout=subprocess.PIPE, stderr=subprocess.STDOUT, text=True)
+def dev(copy, crate):
+    return subprocess.run(["rt", "dev", crate], cwd=copy, stdout=subprocess.PIPE, stderr=subprocess.STDOUT, text=True)
 
 
-def attempt(edit):
-    before = {file: read(os.path.join(COPY, "crates", edit.crate, file)) for file in edit.files}
-    write_files(edit.crate, edit.files)
-    ran = dev(edit.crate)
-    write_files(edit.crate, before)
+def attempt(copy, edit):
+    before = {file: read(os.path.join(copy, "crates", edit.crate, file)) for file in edit.files}
+    write_files(copy, edit.crate, edit.files)
+    ran = dev(copy, edit.crate)
+    write_files(copy, edit.crate, before)
     if ran.returncode == 0:
         return "SURVIVED", ran.stdout
     return ("refused" if "logic=not-proved" in ran.stdout else "unwritable"), ran.stdout
 
 
-def try_all(edits, log):
-    same = {line.rstrip("\n") for line in open(SAME) if not line.startswith("#")} if os.path.exists(SAME) else set()
-    table, proved = collections.defaultdict(collections.Counter), set()
+def try_crate(crate, edits, same, end, log):
+    """How many of a crate's edits had each verdict."""
+    counts = collections.Counter()
+    if time.time() < end:
+        copy = make_copy(crate)
+        if dev(copy, crate).returncode != 0:
+            sys.exit(f"{crate} is not proved before any edit")
     for edit in edits:
-        if edit.crate not in proved and dev(edit.crate).returncode != 0:
-            sys.exit(f"{edit.crate} is not proved before any edit")
-        proved.add(edit.crate)
-        verdict, said = attempt(edit)
-        if verdict == "SURVIVED" and f"{edit.crate} {edit.label}" in same:
+        if end <= time.time():
+            counts["untried"] += 1
+            continue
+        verdict, said = attempt(copy, edit)
+        if verdict == "SURVIVED" and f"{crate} {edit.label}" in same:
             verdict = "same"
-        table[edit.crate][verdict] += 1
-        print(f"{verdict:11}{edit.crate} {edit.label}", flush=True)
-        log.write(f"== {verdict} {edit.crate} {edit.label}\n{said}\n")
+        counts[verdict] += 1
+        print(f"{verdict:11}{crate} {edit.label}", flush=True)
+        log.write(f"== {verdict} {crate} {edit.label}\n{said}\n")
         log.flush()
-    return table
+    shutil.rmtree(os.path.join(COPIES, crate), ignore_errors=True)
+    return counts
+
+
+def try_all(edits, jobs, end, log):
+    same = {line.rstrip("\n") for line in open(SAME) if not line.startswith("#")} if os.path.exists(SAME) else set()
+    by_crate = collections.defaultdict(list)
+    for edit in edits:
+        by_crate[edit.crate].append(edit)
+    with concurrent.futures.ThreadPoolExecutor(jobs) as pool:
+        tried = {crate: pool.submit(try_crate, crate, of_crate, same, end, log) for crate, of_crate in by_crate.items()}
+    return {crate: counts.result() for crate, counts in tried.items()}
 
 
 def show(table):
@@ -158,16 +180,17 @@ def main():
     parser.add_argument("--seed", type=int, default=1)
     parser.add_argument("--edits", type=int, default=300, help="how many small edits")
     parser.add_argument("--crates", default="", help="only these, with commas")
+    parser.add_argument("--jobs", type=int, default=os.cpu_count(), help="how many crates at a time")
+    parser.add_argument("--minutes", type=float, default=float("inf"), help="no edit is begun after so many")
     parser.add_argument("--log", default=os.devnull, help="what the checks say")
     options = parser.parse_args()
     crates = options.crates.split(",") if options.crates else sorted(os.listdir(os.path.join(ROOT, "crates")))
     edits = [edit for crate in crates for edit in (stored_edits if options.stored else small_edits)(crate)]
     if not options.stored:
         random.Random(options.seed).shuffle(edits)
-        edits = sorted(edits[: options.edits], key=lambda edit: (edit.crate, edit.label))
-    make_copy()
+        edits = edits[: options.edits]
     with open(options.log, "w") as log:
-        survived = show(try_all(edits, log))
+        survived = show(try_all(edits, options.jobs, time.time() + 60 * options.minutes, log))
     sys.exit(1 if survived else 0)
 
 
