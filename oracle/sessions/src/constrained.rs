@@ -11,7 +11,7 @@ use judge::hex;
 use judge::pool::Pool;
 use judge::script::{Command, Request, Script};
 use searches::constraint::{Built, Constraint, Made};
-use searches::question::{Answer, Question};
+use searches::question::{Answer, Given, Question};
 use searches::search::Found;
 use searches::tally::{Labelled, Questions, Said, Tally};
 
@@ -299,7 +299,7 @@ fn say(question: &Question) -> Said {
 
 fn told(made: Result<Made, Stop>) -> Said {
     match made {
-        Ok(made) => Ok(Some(Answer::Made(Box::new(made)))),
+        Ok(made) => Ok(Some(Answer::Given(Given::Made(Box::new(made))))),
         Err(Stop::Refused(number)) => Ok(Some(Answer::Refused(number))),
         Err(Stop::Wrong(text)) => Err(text),
     }

@@ -2,13 +2,7 @@
 
 use enonkasse_sys::{evaluate, CELL_SIZE, STEP_SIZE, VALUE_PARTS};
 use judge::kinds::{Kind, Step};
-
-const MALFORMED: u8 = 1;
-const CHILD_COUNT: u8 = 2;
-const NOT_THERE: u8 = 3;
-const CYCLE: u8 = 4;
-const FULL: u8 = 9;
-const NO_RULE: u8 = 10;
+use judge::refusals::{CHILD_COUNT, CYCLE, FULL, MALFORMED, NOT_THERE, NO_RULE};
 
 const MODULUS: u32 = 65_537;
 

@@ -4,12 +4,7 @@ use enonkasse_sys::{
     build, fresh, serve, BLOCKS_AT, BLOCK_COUNT_AT, BLOCK_SIZE, CONTEXT_SIZE, MARKS_AT,
     STEP_COUNT_AT, STEP_SIZE, TEMPORARY_COUNT_AT,
 };
-
-const MALFORMED: u8 = 1;
-const NOT_THERE: u8 = 3;
-const NO_PRIMED_MARK: u8 = 7;
-const NO_BLOCK: u8 = 8;
-const FULL: u8 = 9;
+use judge::refusals::{FULL, MALFORMED, NOT_THERE, NO_BLOCK, NO_PRIMED_MARK};
 
 /// cm0·cm1 + cm2, two expressions, and requests.
 const POOL: [&str; 8] = [

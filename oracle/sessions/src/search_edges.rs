@@ -3,30 +3,21 @@
 
 use crate::record::pool_frames;
 use crate::searched::say;
+use asked::checks::answers_the_stored_vectors;
+use asked::question::Question as _;
 use enonkasse_sys::{self as library, SET_WORDS};
-use judge::case::{add, cm, exp, mul, Case, Tree};
-use judge::pool::{Flags, Pool, MAX_EXPRESSIONS};
+use judge::case::{add, cm, exp, mul, plain_pool, Tree};
+use judge::pool::MAX_EXPRESSIONS;
+use judge::refusals::{BITS, CHILD_COUNT, CYCLE, FULL, MALFORMED, NOT_THERE, NO_IDENTITY, VISITS};
 use judge::run::on_large_stack;
-use searches::question::{ask, Answer, Question};
-use searches::refusals::{BITS, NOT_THERE, NO_IDENTITY, VISITS};
+use searches::question::{Answer, Given, Question};
 use searches::search::Search;
-use searches::vectors;
-
-const MALFORMED: u8 = 1;
-const CHILD_COUNT: u8 = 2;
-const CYCLE: u8 = 4;
-const FULL: u8 = 9;
 
 const UNWRITTEN: u64 = 0xa5a5_a5a5_a5a5_a5a5;
 
-fn pool(trees: &[Tree]) -> Pool {
-    let flagged: Vec<_> = trees.iter().map(|tree| (tree.clone(), Flags::NONE)).collect();
-    Case::new("", &flagged, &[]).script.pool
-}
-
 /// Document 01's example: e0 = cm0·cm1, e1 = e0·cm2.
 fn frames() -> Vec<u8> {
-    pool_frames(&pool(&[mul(cm(0), cm(1)), mul(exp(0), cm(2))]))
+    pool_frames(&plain_pool(&[mul(cm(0), cm(1)), mul(exp(0), cm(2))]))
 }
 
 /// What is found, or the refusal's number, which leaves all as it was.
@@ -136,12 +127,12 @@ fn a_set_has_up_to_511_members() {
     let last = MAX_EXPRESSIONS as u16 - 1;
     let mut trees: Vec<Tree> = (0..last).map(|_| mul(cm(0), cm(1))).collect();
     trees.push((1..last).fold(mul(exp(0), cm(2)), |sum, e| add(sum, mul(exp(e), cm(2)))));
-    let (pool, identities) = (pool(&trees), vec![last]);
+    let (pool, identities) = (plain_pool(&trees), vec![last]);
     let search = Search { pool, identities, n_bits: 3, n_bits_ext: 3, limit: 1_000_000 };
     let question = Question::Search(search);
-    let answer = on_large_stack(|| ask(&question)).unwrap();
+    let answer = on_large_stack(|| question.ask()).unwrap();
     match &answer {
-        Answer::Found(found) => assert_eq!(found.set.len(), usize::from(last)),
+        Answer::Given(Given::Found(found)) => assert_eq!(found.set.len(), usize::from(last)),
         other => panic!("{}", other),
     }
     assert_eq!(say(&question), Ok(Some(answer)));
@@ -150,13 +141,5 @@ fn a_set_has_up_to_511_members() {
 #[test]
 fn the_stored_vectors_are_answered() {
     let path = concat!(env!("CARGO_MANIFEST_DIR"), "/../../vectors/searches.txt");
-    let text = std::fs::read_to_string(path).unwrap();
-    let mut asked = 0;
-    for vector in vectors::parse(&text).unwrap() {
-        if let Some(answer) = say(&vector.case.question).unwrap() {
-            assert_eq!(answer.to_string(), vector.answer, "{}", vector.case.name);
-            asked += 1;
-        }
-    }
-    assert!(asked > 300, "{} vectors", asked);
+    answers_the_stored_vectors(path, say);
 }

@@ -4,7 +4,7 @@ use crate::record::pool_frames;
 use crate::spread;
 use enonkasse_sys::{self as library, MAX_EXPRESSIONS, SET_BIT_WORDS, SET_WORDS};
 use judge::random::Random;
-use searches::question::{Answer, Question};
+use searches::question::{Answer, Given, Question};
 use searches::search::{visits_needed, Found, Search};
 use searches::tally::{Labelled, Questions, Said, Tally};
 
@@ -47,7 +47,7 @@ pub fn compare(seed: u64, count: u64) -> Result<(Tally, Option<String>), String>
 pub fn say(question: &Question) -> Said {
     match question {
         Question::Search(search) => Ok(Some(match found(search)? {
-            Ok((found, _)) => Answer::Found(found),
+            Ok((found, _)) => Answer::Given(Given::Found(found)),
             Err(number) => Answer::Refused(number),
         })),
         Question::Constraint(_) => Ok(None),

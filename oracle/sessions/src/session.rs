@@ -8,6 +8,7 @@ use judge::answer::{Answer, StepBytes};
 use judge::kinds::Step;
 use judge::pool::Pool;
 use judge::random::Random;
+use judge::refusals::FULL;
 use judge::run::Original;
 use judge::script::{Command, Request, Script};
 use std::collections::BTreeMap;
@@ -17,9 +18,6 @@ const ROOM: usize = 16384;
 
 /// What stands where nothing was written.
 const UNWRITTEN: u8 = 0xa5;
-
-/// Document 01's number where lists do not fit. The original has no limits.
-const FULL: u8 = 9;
 
 /// How a script is asked.
 #[derive(Clone, Copy, Debug)]
