@@ -1,6 +1,6 @@
 //! The constraint polynomial, in pieces as a host calls them one after the other, and in one call, compared with the original's.
 
-use crate::record::{encoded, framed, pool_frames, said};
+use crate::record::{encoded, framed, pool_frames, said, UNWRITTEN};
 use crate::searched;
 use enonkasse_sys::{
     self as library, CONSTRAINT_NUMBERS, CONSTRAINT_TOTALS, CONTEXT_SIZE, LIST_ROOM,
@@ -14,9 +14,6 @@ use searches::constraint::{Built, Constraint, Made};
 use searches::question::{Answer, Given, Question};
 use searches::search::Found;
 use searches::tally::{Labelled, Questions, Said, Tally};
-
-/// What stands where nothing was written.
-const UNWRITTEN: u8 = 0xa5;
 
 /// Why a piece did not come to its end: its number, or what is wrong with what it left.
 enum Stop {

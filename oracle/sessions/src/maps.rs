@@ -1,5 +1,6 @@
 //! The bytes that the port answers for `map`, read as what the original holds.
 
+use crate::record::UNWRITTEN;
 use enonkasse_sys as library;
 use judge::hex::Reader;
 use judge::refusals::FULL;
@@ -9,8 +10,7 @@ use plans::question::{Answer, Given};
 /// Enough for every plan: 4,096 records, as many columns, 512 expressions.
 const ROOM: usize = 1 << 17;
 
-/// What stands where nothing was written, and in place of a size.
-const UNWRITTEN: u8 = 0xa5;
+/// What stands in place of a size that was not written.
 const NO_SIZE: usize = usize::MAX;
 
 /// What exp2pol says of an expression that has no record.

@@ -1,7 +1,7 @@
 //! Bad input to the degree search, and its limits: each gets its number, and nothing lent has changed; and
 //! the stored vectors.
 
-use crate::record::pool_frames;
+use crate::record::{framed_hex, pool_frames, UNWRITTEN_WORD};
 use crate::searched::say;
 use asked::checks::answers_the_stored_vectors;
 use asked::question::Question as _;
@@ -12,8 +12,6 @@ use judge::refusals::{BITS, CHILD_COUNT, CYCLE, FULL, MALFORMED, NOT_THERE, NO_I
 use judge::run::on_large_stack;
 use searches::question::{Answer, Given, Question};
 use searches::search::Search;
-
-const UNWRITTEN: u64 = 0xa5a5_a5a5_a5a5_a5a5;
 
 /// Document 01's example: e0 = cm0·cm1, e1 = e0·cm2.
 fn frames() -> Vec<u8> {
@@ -27,12 +25,12 @@ fn found(
     bits: [u64; 2],
     limit: u64,
 ) -> Result<([u64; SET_WORDS], [u64; 2]), u8> {
-    let (mut chosen, mut found) = ([UNWRITTEN; SET_WORDS], [UNWRITTEN; 2]);
+    let (mut chosen, mut found) = ([UNWRITTEN_WORD; SET_WORDS], [UNWRITTEN_WORD; 2]);
     let [n_bits, n_bits_ext] = bits;
     match library::search(frames, identities, n_bits, n_bits_ext, limit, &mut chosen, &mut found) {
         0 => Ok((chosen, found)),
         number => {
-            assert_eq!((chosen, found), ([UNWRITTEN; SET_WORDS], [UNWRITTEN; 2]));
+            assert_eq!((chosen, found), ([UNWRITTEN_WORD; SET_WORDS], [UNWRITTEN_WORD; 2]));
             Err(number)
         }
     }
@@ -109,16 +107,13 @@ fn a_pool_is_admitted_first() {
     assert_eq!(of(&whole[..whole.len() - 1]), Some(MALFORMED));
     assert_eq!(of(&[0xff; 9]), Some(MALFORMED));
     assert_eq!(of(&[0; 9]), Some(MALFORMED));
-    let hex = |lines: &[&str]| -> Vec<u8> {
-        crate::record::framed(lines.iter().map(|line| judge::hex::decode(line).unwrap()))
-    };
-    assert_eq!(of(&hex(&["0107000000020000"])), Some(MALFORMED));
-    assert_eq!(of(&hex(&["010700000000"])), Some(CHILD_COUNT));
-    assert_eq!(of(&hex(&["0107000000010001"])), Some(NOT_THERE));
-    assert_eq!(of(&hex(&["02000000"])), Some(NOT_THERE));
-    assert_eq!(of(&hex(&["011200000000", "02000000"])), Some(CYCLE));
-    assert_eq!(of(&hex(&["011000000000"; 4096])), Some(NO_IDENTITY));
-    assert_eq!(of(&hex(&["011000000000"; 4097])), Some(FULL));
+    assert_eq!(of(&framed_hex(&["0107000000020000"])), Some(MALFORMED));
+    assert_eq!(of(&framed_hex(&["010700000000"])), Some(CHILD_COUNT));
+    assert_eq!(of(&framed_hex(&["0107000000010001"])), Some(NOT_THERE));
+    assert_eq!(of(&framed_hex(&["02000000"])), Some(NOT_THERE));
+    assert_eq!(of(&framed_hex(&["011200000000", "02000000"])), Some(CYCLE));
+    assert_eq!(of(&framed_hex(&["011000000000"; 4096])), Some(NO_IDENTITY));
+    assert_eq!(of(&framed_hex(&["011000000000"; 4097])), Some(FULL));
 }
 
 /// e511 is the sum of e0·cm, .., e510·cm, each a product: all of them are cut.

@@ -2,6 +2,7 @@
 //! thing wrong. Everything is lent between guards.
 
 use crate::guarded::Guarded;
+use crate::record;
 use asked::rows::Rows;
 use enonkasse_sys::records::{map_section, PolType};
 use enonkasse_sys::{MAX_RECORDS, SECTIONS};
@@ -21,7 +22,7 @@ const MANY_EVERY: u64 = 50;
 const FEW: usize = 40;
 
 /// What stands in columns and widths at first.
-const UNWRITTEN: u16 = 0xa5a5;
+const UNWRITTEN: u16 = u16::from_ne_bytes([record::UNWRITTEN; 2]);
 
 /// Records of known sections, with any dimensions and positions.
 pub fn questions(seed: u64, index: u64) -> Questions {
