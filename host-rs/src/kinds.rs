@@ -1,40 +1,20 @@
 //! The kinds of nodes, references and steps, each with its byte and its name.
 
+use crate::numbered::numbered;
 use std::fmt;
 
-/// An enum of kinds: each variant with its byte and its name, which is also its documentation.
+/// An enum of kinds.
 macro_rules! kinds {
-    ($(#[$meta:meta])* $name:ident { $($variant:ident = $byte:literal, $text:literal;)* }) => {
-        $(#[$meta])*
-        #[derive(Clone, Copy, Debug, PartialEq, Eq, Hash, PartialOrd, Ord)]
-        #[repr(u8)]
-        pub enum $name {
-            $(#[doc = concat!("`", $text, "`")] $variant = $byte,)*
-        }
-
-        impl $name {
-            /// All kinds, by ascending bytes.
-            pub const ALL: &'static [$name] = &[$($name::$variant),*];
-
+    ($(#[$meta:meta])* $name:ident { $($kinds:tt)* }) => {
+        numbered! {
+            $(#[$meta])*
+            $name { $($kinds)* }
             /// Its byte in frames and records.
-            pub fn byte(self) -> u8 {
-                self as u8
-            }
-
+            byte
             /// The kind of a byte, if one has it.
-            pub fn from_byte(byte: u8) -> Option<$name> {
-                match byte {
-                    $($byte => Some($name::$variant),)*
-                    _ => None,
-                }
-            }
-
+            from_byte
             /// Its name in the original.
-            pub fn name(self) -> &'static str {
-                match self {
-                    $($name::$variant => $text,)*
-                }
-            }
+            name
         }
 
         impl fmt::Display for $name {
@@ -45,7 +25,31 @@ macro_rules! kinds {
     };
 }
 
-kinds! {
+/// An enum of kinds with those that nodes and references have alike, between some and others.
+macro_rules! kinds_with_leaves {
+    ($(#[$meta:meta])* $name:ident { $($before:tt)* } { $($after:tt)* }) => {
+        kinds! {
+            $(#[$meta])*
+            $name {
+                $($before)*
+                Cm = 0x10, "cm";
+                Const = 0x11, "const";
+                Exp = 0x12, "exp";
+                Q = 0x13, "q";
+                Number = 0x14, "number";
+                Public = 0x15, "public";
+                Challenge = 0x16, "challenge";
+                Eval = 0x17, "eval";
+                XDivXSubXi = 0x18, "xDivXSubXi";
+                XDivXSubWXi = 0x19, "xDivXSubWXi";
+                X = 0x1a, "x";
+                $($after)*
+            }
+        }
+    };
+}
+
+kinds_with_leaves! {
     /// What a node of a pool is: an operation or a leaf.
     NodeKind {
         Add = 0x01, "add";
@@ -55,34 +59,12 @@ kinds! {
         AddC = 0x05, "addc";
         MulC = 0x06, "mulc";
         Neg = 0x07, "neg";
-        Cm = 0x10, "cm";
-        Const = 0x11, "const";
-        Exp = 0x12, "exp";
-        Q = 0x13, "q";
-        Number = 0x14, "number";
-        Public = 0x15, "public";
-        Challenge = 0x16, "challenge";
-        Eval = 0x17, "eval";
-        XDivXSubXi = 0x18, "xDivXSubXi";
-        XDivXSubWXi = 0x19, "xDivXSubWXi";
-        X = 0x1a, "x";
-    }
+    } {}
 }
 
-kinds! {
+kinds_with_leaves! {
     /// What a reference of a step points to.
-    ReferenceKind {
-        Cm = 0x10, "cm";
-        Const = 0x11, "const";
-        Exp = 0x12, "exp";
-        Q = 0x13, "q";
-        Number = 0x14, "number";
-        Public = 0x15, "public";
-        Challenge = 0x16, "challenge";
-        Eval = 0x17, "eval";
-        XDivXSubXi = 0x18, "xDivXSubXi";
-        XDivXSubWXi = 0x19, "xDivXSubWXi";
-        X = 0x1a, "x";
+    ReferenceKind {} {
         Tmp = 0x20, "tmp";
         F = 0x21, "f";
         TmpExp = 0x22, "tmpExp";

@@ -44,6 +44,7 @@ pub mod frames;
 pub mod kinds;
 pub mod list;
 pub mod map;
+mod numbered;
 pub mod plan;
 pub mod pool;
 pub mod refusal;

@@ -1,78 +1,51 @@
 //! Refusals: the numbers of document 01, with what each says.
 
+use crate::numbered::numbered;
 use std::error::Error;
 use std::fmt;
 
-/// Variants with their numbers and meanings, which are also their documentation.
-macro_rules! refusals {
-    ($($variant:ident = $number:literal, $meaning:literal;)*) => {
-        /// Why a call was refused. What was lent to the call is as it was before.
-        #[derive(Clone, Copy, Debug, PartialEq, Eq, Hash, PartialOrd, Ord)]
-        #[repr(u8)]
-        pub enum Refusal {
-            $(#[doc = concat!($number, ": ", $meaning, ".")] $variant = $number,)*
-        }
-
-        impl Refusal {
-            /// All refusals, by ascending numbers.
-            pub const ALL: &'static [Refusal] = &[$(Refusal::$variant),*];
-
-            /// What it says, in document 01's words.
-            pub fn meaning(self) -> &'static str {
-                match self {
-                    $(Refusal::$variant => $meaning,)*
-                }
-            }
-
-            /// The refusal of a number, if one has it.
-            pub fn from_number(number: u8) -> Option<Refusal> {
-                match number {
-                    $($number => Some(Refusal::$variant),)*
-                    _ => None,
-                }
-            }
-        }
-    };
-}
-
-refusals! {
-    Malformed = 1,
-        "malformed frame or record: unknown kind, frames out of order, a prime, muladd or next byte \
-         not 0 or 1, expression flags above 7, an unused id not 0, minus zero, literal out of range, \
-         modulus below 2";
-    ChildCount = 2, "child count differs from the table";
-    NotThere = 3,
-        "child not earlier, node used twice, or a root or expression number not there; for a plan, \
-         also a cm or q leaf's number not in it, or a cm or q number looked up for a list and not there";
-    Cycle = 4,
-        "exp leaves form a cycle; for a plan, exp leaves and q leaves (through their expressions) \
-         together";
-    DoublePrime = 5, "a primed evaluation reaches a cm, const, exp or q leaf with next";
-    SearchKind = 6,
-        "the search meets q, xDivXSubXi or xDivXSubWXi in a visit with a set or in a full degree, or \
-         visits eval or muladd with a set";
-    NoPrimedMark = 7, "result asked for a primed request whose expression has no primed mark";
-    NoBlock = 8, "result asked for a marked expression without a block";
-    Full = 9, "the whole answer does not fit the lent space, or a pool or plan its limit";
-    NoRule = 10,
-        "a dimension pass or the evaluator reads an unwritten temporary; fixing, a dimension pass or \
-         the evaluator meets a kind or step it has no rule for; the evaluator also reads a cell neither \
-         written nor given a value";
-    Counts = 11, "plan counts disagree";
-    NoDimension = 12, "a record of a plan, or a source in a dimension pass, gets dimension 0";
-    NoSet = 13, "every d yields no set";
-    NoQuotient = 14, "the kept q is -1";
-    Visits = 15, "the visits needed pass the caller's limit";
-    Bits = 16, "nBits or nBitsExt out of range";
-    NoIdentity = 17, "no identity";
+numbered! {
+    /// Why a call was refused. What was lent to the call is as it was before.
+    Refusal {
+        Malformed = 1,
+            "malformed frame or record: unknown kind, frames out of order, a prime, muladd or next byte \
+             not 0 or 1, expression flags above 7, an unused id not 0, minus zero, literal out of range, \
+             modulus below 2";
+        ChildCount = 2, "child count differs from the table";
+        NotThere = 3,
+            "child not earlier, node used twice, or a root or expression number not there; for a plan, \
+             also a cm or q leaf's number not in it, or a cm or q number looked up for a list and not there";
+        Cycle = 4,
+            "exp leaves form a cycle; for a plan, exp leaves and q leaves (through their expressions) \
+             together";
+        DoublePrime = 5, "a primed evaluation reaches a cm, const, exp or q leaf with next";
+        SearchKind = 6,
+            "the search meets q, xDivXSubXi or xDivXSubWXi in a visit with a set or in a full degree, or \
+             visits eval or muladd with a set";
+        NoPrimedMark = 7, "result asked for a primed request whose expression has no primed mark";
+        NoBlock = 8, "result asked for a marked expression without a block";
+        Full = 9, "the whole answer does not fit the lent space, or a pool or plan its limit";
+        NoRule = 10,
+            "a dimension pass or the evaluator reads an unwritten temporary; fixing, a dimension pass or \
+             the evaluator meets a kind or step it has no rule for; the evaluator also reads a cell neither \
+             written nor given a value";
+        Counts = 11, "plan counts disagree";
+        NoDimension = 12, "a record of a plan, or a source in a dimension pass, gets dimension 0";
+        NoSet = 13, "every d yields no set";
+        NoQuotient = 14, "the kept q is -1";
+        Visits = 15, "the visits needed pass the caller's limit";
+        Bits = 16, "nBits or nBitsExt out of range";
+        NoIdentity = 17, "no identity";
+    }
+    /// Its number in document 01.
+    number
+    /// The refusal of a number, if one has it.
+    from_number
+    /// What it says, in document 01's words.
+    meaning
 }
 
 impl Refusal {
-    /// Its number in document 01.
-    pub fn number(self) -> u8 {
-        self as u8
-    }
-
     /// The library's answer: 0 is no refusal.
     pub(crate) fn check(answer: u8) -> Result<(), Refusal> {
         match answer {

@@ -2,6 +2,11 @@
 use kinds::big_endian::u16_of;
 use libc::STDIN_FILENO;
 use libc::STDOUT_FILENO;
+ghost use Prim.Native.Nat.{_≤_};
+ghost use mathlib.Core.Bool.{true};
+ghost use mathlib.Core.Path.{_≡_};
+ghost use lib.ListN.{length, take};
+ghost use Rattle.replay_pool.specs.Numbers.{NumberedAs};
 
 // More than stdin has; a program ends.
 const ENTRIES: u32 = 4096;
@@ -10,23 +15,26 @@ const ENTRIES: u32 = 4096;
 const TEXT: u8 = 1;
 
 // Reads the first n bytes of a buffer; false where it is too short or the input ends.
-fn filled(buffer: &mut [u8], n: usize) -> bool {
+fn filled(buffer: &mut [u8], n: usize) -> bool
+    ensures { λ r. ⌜ (r ≡ true → n ≤ length (now (buffer .exit))) ⌝ }
+{
     if buffer.len() < n {
         return false;
     }
     io::read_full(STDIN_FILENO, &mut buffer[..n]) == n
 }
 
-fn print(buffer: &[u8], n: usize) {
-    if n <= buffer.len() {
-        io::write_all(STDOUT_FILENO, &buffer[..n]);
-    }
+fn print(buffer: &[u8], n: usize)
+    requires { ⌜ n ≤ length (now buffer) ⌝ }
+{
+    io::write_all(STDOUT_FILENO, &buffer[..n]);
 }
 
-fn number(form: u8, input: &[u8], n: usize) -> u64 {
-    if input.len() < n {
-        return 0;
-    }
+// The number that the first n bytes get, of this form.
+fn number(form: u8, input: &[u8], n: usize) -> u64
+    requires { ⌜ n ≤ length (now input) ⌝ }
+    ensures { λ r. ⌜ NumberedAs form (take n (now (input .entry))) r ⌝ }
+{
     if form == TEXT {
         wide(pool::number::number_of_text(&input[..n]))
     } else {
@@ -34,7 +42,9 @@ fn number(form: u8, input: &[u8], n: usize) -> u64 {
     }
 }
 
-fn wide(x: u8) -> u64 {
+fn wide(x: u8) -> u64
+    ensures { λ r. ⌜ r ≡ x ⌝ }
+{
     x as u64
 }
 

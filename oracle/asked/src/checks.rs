@@ -1,7 +1,7 @@
 //! For tests: what holds of a file of vectors, and of random questions.
 
-use crate::question::Question;
-use crate::tally::{compare, Labelled, Questions};
+use crate::question::{AnswerTo, Question};
+use crate::tally::{compare, Labelled, Questions, Said};
 use crate::vectors::{parse, Vector};
 use judge::run::on_large_stack;
 use judge::script::numbered;
@@ -35,7 +35,25 @@ pub fn is_read_as_written<Q: Question>(make: Make) {
 
 /// What the first of these vectors differs in.
 pub fn difference<Q: Question>(text: &str) -> Option<String> {
-    on_large_stack(|| parse::<Q>(text).expect("vectors")[0].difference()).unwrap()
+    let difference = || {
+        let vector = &parse::<Q>(text).expect("vectors")[0];
+        let answer = vector.case.question.ask()?.to_string();
+        Ok(vector.difference(&answer).map(|difference| difference.to_string()))
+    };
+    on_large_stack(difference).unwrap()
+}
+
+/// What is asked besides gives the stored answer to each vector of a file that it is to be asked, and these are many.
+pub fn answers_the_stored_vectors<Q: Question>(path: &str, say: impl Fn(&Q) -> Said<AnswerTo<Q>>) {
+    let text = std::fs::read_to_string(path).expect("the stored vectors");
+    let mut asked = 0;
+    for vector in parse::<Q>(&text).unwrap() {
+        if let Some(answer) = say(&vector.case.question).unwrap() {
+            assert_eq!(answer.to_string(), vector.answer, "{}", vector.case.name);
+            asked += 1;
+        }
+    }
+    assert!(asked > 300, "{} vectors", asked);
 }
 
 /// Each of these texts is malformed, for the reason beside it.
@@ -46,12 +64,23 @@ pub fn are_faults<Q: Question>(texts: &[(&str, &str)]) {
     }
 }
 
+/// What no question of `plans` or `searches` may say.
+pub fn malformed_questions_are_named_by_line<Q: Question>() {
+    are_faults::<Q>(&[
+        ("vector a\nanswers\nend\n", "line 1: this asks nothing"),
+        ("vector a\nask mop\nanswers\nend\n", "line 1: nothing is asked by \"mop\""),
+        ("vector a\nbits 1\nanswers\nend\n", "line 2: 2 numbers come here"),
+        ("vector a\nbits 1 256\nanswers\nend\n", "line 2: \"256\" is no number that fits here"),
+        ("vector a\n03\nanswers\nend\n", "line 2: no frame begins with 03"),
+    ]);
+}
+
 /// Whether a comparison finds the original, changed in what it answers.
 pub fn finds<Q: Question>(
     seed: u64,
     count: u64,
     questions: impl Fn(u64, u64) -> Questions<Q> + Sync,
-    change: impl Fn(&mut Q::Answer) + Sync,
+    change: impl Fn(&mut AnswerTo<Q>) + Sync,
 ) -> bool {
     let changed = |question: &Q| {
         let mut answer = question.ask()?;

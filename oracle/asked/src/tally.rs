@@ -1,6 +1,6 @@
 //! Many random questions: how they are answered, and whether something else answers the same.
 
-use crate::question::{Answer, Question};
+use crate::question::{Answer, AnswerTo, Given, Question};
 use crate::rows::{Rows, ACCEPTED};
 use judge::run::on_large_stack;
 use std::fmt;
@@ -28,14 +28,17 @@ pub struct Tally<C> {
     pub counts: C,
 }
 
-pub type TallyOf<Q> = Tally<<<Q as Question>::Answer as Answer>::Counts>;
+pub type TallyOf<Q> = Tally<<<Q as Question>::Given as Given>::Counts>;
 
 impl<C> Tally<C> {
-    fn count(&mut self, label: String, answer: &impl Answer<Counts = C>) {
-        let number = answer.refusal().unwrap_or(ACCEPTED);
-        if number == ACCEPTED {
-            answer.count_in(&mut self.counts);
-        }
+    fn count(&mut self, label: String, answer: &Answer<impl Given<Counts = C>>) {
+        let number = match answer {
+            Answer::Given(given) => {
+                given.count_in(&mut self.counts);
+                ACCEPTED
+            }
+            Answer::Refused(number) => *number,
+        };
         self.rows.count(&label, number);
     }
 
@@ -71,7 +74,7 @@ pub fn compare<Q: Question>(
     seed: u64,
     count: u64,
     questions: impl Fn(u64, u64) -> Questions<Q> + Sync,
-    port: impl Fn(&Q) -> Said<Q::Answer> + Sync,
+    port: impl Fn(&Q) -> Said<AnswerTo<Q>> + Sync,
 ) -> Compared<Q> {
     each(seed, count, questions, |question, answer| {
         let given = port(question).map_err(|text| format!("{}{}", question, text))?;
@@ -90,7 +93,7 @@ fn each<Q: Question>(
     seed: u64,
     count: u64,
     questions: impl Fn(u64, u64) -> Questions<Q> + Sync,
-    told: impl Fn(&Q, &Q::Answer) -> Result<bool, String> + Sync,
+    told: impl Fn(&Q, &AnswerTo<Q>) -> Result<bool, String> + Sync,
 ) -> Compared<Q> {
     on_large_stack(|| {
         let mut tally = TallyOf::<Q>::default();

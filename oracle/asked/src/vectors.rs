@@ -1,62 +1,12 @@
-//! Vectors: questions stored with their answers.
+//! Vectors of questions, with the answers of document 01.
 
 use crate::question::{Lines, Question};
-use judge::command;
+use judge::command::Done;
 use judge::run::on_large_stack;
-use judge::script::{numbered, Line, TextFault};
-use std::collections::HashSet;
-use std::fmt;
-use std::process::ExitCode;
+use judge::script::{Line, TextFault};
+use judge::vectors;
 
-/// A question with its name and, where the name does not say it, what it shows.
-#[derive(Clone, Debug)]
-pub struct Case<Q> {
-    pub name: String,
-    pub note: Option<String>,
-    pub question: Q,
-}
-
-impl<Q> Case<Q> {
-    pub fn new(name: &str, question: Q) -> Case<Q> {
-        Case { name: name.to_string(), note: None, question }
-    }
-
-    pub fn note(self, note: &str) -> Case<Q> {
-        Case { note: Some(note.to_string()), ..self }
-    }
-}
-
-#[derive(Clone, Debug)]
-pub struct Vector<Q> {
-    pub case: Case<Q>,
-    pub answer: String,
-}
-
-impl<Q: Question> Vector<Q> {
-    pub fn of(case: Case<Q>) -> Result<Vector<Q>, String> {
-        let answer = case.question.ask().map_err(|text| format!("{}: {}", case.name, text))?;
-        Ok(Vector { case, answer: answer.to_string() })
-    }
-
-    /// Both answers, where the one given now is another than the stored one.
-    pub fn difference(&self) -> Result<Option<String>, String> {
-        let given = self.case.question.ask()?.to_string();
-        if given == self.answer {
-            return Ok(None);
-        }
-        Ok(Some(format!("stored is\n{}and the original says\n{}", self.answer, given)))
-    }
-}
-
-impl<Q: fmt::Display> fmt::Display for Vector<Q> {
-    fn fmt(&self, f: &mut fmt::Formatter<'_>) -> fmt::Result {
-        if let Some(note) = &self.case.note {
-            writeln!(f, "# {}", note)?;
-        }
-        let Case { name, question, .. } = &self.case;
-        writeln!(f, "vector {}\n{}answers\n{}end", name, question, self.answer)
-    }
-}
+pub use judge::vectors::{Case, Vector};
 
 /// Whether neither a question's text nor its answer's is longer than so many bytes.
 pub fn is_short<Q: Question>(question: &Q, longest: usize) -> Result<bool, String> {
@@ -65,37 +15,15 @@ pub fn is_short<Q: Question>(question: &Q, longest: usize) -> Result<bool, Strin
 
 /// The text of these questions with their answers, each after an empty line.
 pub fn answered<Q: Question>(cases: impl IntoIterator<Item = Case<Q>>) -> Result<String, String> {
-    cases.into_iter().map(|case| Ok(format!("\n{}", Vector::of(case)?))).collect()
+    let text = |case: Case<Q>| {
+        let answer = case.question.ask().map_err(|text| format!("{}: {}", case.name, text))?;
+        Ok(format!("\n{}", Vector { case, answer: answer.to_string() }))
+    };
+    cases.into_iter().map(text).collect()
 }
 
-/// Reads a list of vectors. Notes are comments and are not read.
 pub fn parse<Q: Question>(text: &str) -> Result<Vec<Vector<Q>>, TextFault> {
-    let mut names = HashSet::new();
-    let lines: Vec<_> = numbered(text).collect();
-    let mut rest = &lines[..];
-    let mut vectors = Vec::new();
-    while let Some(&(line, head)) = rest.first() {
-        let fault = |text: String| TextFault { line, text };
-        let name = head
-            .strip_prefix("vector ")
-            .ok_or_else(|| fault(format!("`vector NAME` comes here, not {:?}", head)))?;
-        if !names.insert(name) {
-            return Err(fault(format!("there are two vectors {}", name)));
-        }
-        let place = |stop: &str| {
-            let place = rest.iter().position(|&(_, text)| text == stop);
-            place.ok_or_else(|| fault(format!("this vector has no line `{}`", stop)))
-        };
-        let (answers, end) = (place("answers")?, place("end")?);
-        if end < answers {
-            return Err(fault("this vector has no line `answers`".to_string()));
-        }
-        let question = question(&rest[1..answers], line)?;
-        let answer = rest[answers + 1..end].iter().map(|(_, text)| format!("{}\n", text)).collect();
-        vectors.push(Vector { case: Case::new(name, question), answer });
-        rest = &rest[end + 1..];
-    }
-    Ok(vectors)
+    vectors::parse(text, question)
 }
 
 /// Reads a question; a fault outside of its lines is put on line `start`.
@@ -108,27 +36,17 @@ fn question<Q: Question>(lines: &[Line<'_>], start: usize) -> Result<Q, TextFaul
 }
 
 /// The command `check`: asks again for every vector of a file and compares.
-pub fn check<Q: Question + Sync>(program: &str, file: &str) -> Result<ExitCode, String> {
-    let text = command::contents(file)?;
-    let vectors = parse::<Q>(&text).map_err(|fault| format!("{}, {}", file, fault))?;
-    if vectors.is_empty() {
-        return Err(format!("{} has no vectors", file));
-    }
-    let mut equal = 0;
-    for vector in &vectors {
-        match on_large_stack(|| vector.difference()) {
-            Ok(None) => equal += 1,
-            Ok(Some(text)) | Err(text) => eprintln!("{}: {}", vector.case.name, text),
-        }
-    }
-    command::compared(program, "vectors", vectors.len(), equal)
+pub fn check<Q: Question + Sync>(program: &str, file: &str) -> Done {
+    let ask = |question: &Q| on_large_stack(|| Ok(question.ask()?.to_string()));
+    vectors::check(program, file, parse, ask)
 }
 
 #[cfg(test)]
 mod tests {
     use super::*;
     use crate::checks::{are_faults, difference};
-    use crate::question::Answer;
+    use crate::question::{Given, Refused};
+    use std::fmt;
 
     /// Asks for the length of a line.
     #[derive(Debug, Default)]
@@ -139,9 +57,9 @@ mod tests {
 
     impl Question for Length {
         type Lines = Length;
-        type Answer = Bytes;
+        type Given = Bytes;
 
-        fn ask(&self) -> Result<Bytes, String> {
+        fn given(&self) -> Result<Bytes, Refused> {
             Ok(Bytes(self.0.len()))
         }
     }
@@ -163,12 +81,8 @@ mod tests {
         }
     }
 
-    impl Answer for Bytes {
+    impl Given for Bytes {
         type Counts = String;
-
-        fn refusal(&self) -> Option<u8> {
-            None
-        }
 
         fn count_in(&self, _: &mut String) {}
     }
@@ -202,19 +116,14 @@ mod tests {
     fn a_wrong_answer_is_shown() {
         assert_eq!(difference::<Length>(ONE), None);
         let difference = difference::<Length>(&ONE.replace('2', "3"));
-        assert_eq!(difference.as_deref(), Some("stored is\n3\nand the original says\n2\n"));
+        assert_eq!(difference.as_deref(), Some("stored `3`, the original says `2`"));
     }
 
     #[test]
-    fn malformed_lists_are_named_by_line() {
+    fn malformed_questions_are_named_by_line() {
         are_faults::<Length>(&[
-            ("length of it\n", "line 1: `vector NAME` comes here, not \"length of it\""),
-            ("vector a\nlength of it\n", "line 1: this vector has no line `answers`"),
-            ("vector a\nend\nanswers\n", "line 1: this vector has no line `answers`"),
-            ("vector a\nanswers\n", "line 1: this vector has no line `end`"),
             ("vector a\nanswers\nend\n", "line 1: this asks nothing"),
             ("vector a\n\nwidth\nanswers\nend\n", "line 3: this asks for no length"),
-            (&ONE.repeat(2), "line 6: there are two vectors one"),
         ]);
     }
 }

@@ -1,10 +1,10 @@
 //! Pools, requests and plans of a chosen size.
 
-use judge::case::{add, cm, constant, exp, mul, neg, Case, Tree};
-use judge::pool::{Flags, Pool};
+use judge::case::{add, cm, constant, exp, mul, neg, plain_pool, Tree};
+use judge::pool::Pool;
 use judge::script::Request;
 use plans::plan::{Intermediate, Plan, MAX_RECORDS};
-use plans::written::{pu, with_columns, SMALL};
+use plans::written::{pu, small, with_columns};
 
 /// Nodes of each expression of a regular pool.
 const NODES_EACH: usize = 8;
@@ -41,8 +41,7 @@ pub fn chain(nodes: usize) -> Pool {
 }
 
 pub fn pool_of(trees: Vec<Tree>) -> Pool {
-    let flagged: Vec<_> = trees.into_iter().map(|tree| (tree, Flags::NONE)).collect();
-    Case::new("", &flagged, &[]).script.pool
+    plain_pool(&trees)
 }
 
 /// Every expression at this row and the next, fused.
@@ -67,7 +66,7 @@ pub fn plan(pool: &Pool, records: usize) -> Plan {
         c_exp: expressions - 1,
         pu: lookups.collect(),
         intermediates: intermediates.collect(),
-        ..SMALL
+        ..small()
     };
     let plan = with_columns(COLUMNS, plan);
     let more = (records - plan.records()) / 2;

@@ -1,26 +1,16 @@
-//! Cases: named scripts, and a short way to write them. The original gives the answers.
+//! Cases of scripts, and a short way to write them. The original gives the answers.
 
 use crate::kinds::Kind;
 use crate::literal::Literal;
 use crate::pool::{Expression, Flags, Node, Pool};
 use crate::script::{Asked, Command, Request, Script};
+use crate::vectors;
 
-/// A script with its name and, where the name does not say it, what it shows.
-#[derive(Clone, Debug)]
-pub struct Case {
-    pub name: String,
-    pub note: Option<String>,
-    pub script: Script,
-}
+pub type Case = vectors::Case<Script>;
 
 impl Case {
-    pub fn new(name: &str, expressions: &[(Tree, Flags)], commands: &[Command]) -> Case {
-        let script = Script { pool: pool(expressions), commands: commands.to_vec() };
-        Case { name: name.to_string(), note: None, script }
-    }
-
-    pub fn note(self, note: &str) -> Case {
-        Case { note: Some(note.to_string()), ..self }
+    pub fn of(name: &str, expressions: &[(Tree, Flags)], commands: &[Command]) -> Case {
+        Case::new(name, Script { pool: pool(expressions), commands: commands.to_vec() })
     }
 }
 
@@ -47,7 +37,8 @@ impl Tree {
     }
 }
 
-fn pool(expressions: &[(Tree, Flags)]) -> Pool {
+/// The pool of these expressions.
+pub fn pool(expressions: &[(Tree, Flags)]) -> Pool {
     let mut pool = Pool::default();
     let roots: Vec<u16> = expressions.iter().map(|(tree, _)| tree.push(&mut pool)).collect();
     for (root, &(_, flags)) in roots.into_iter().zip(expressions) {
@@ -55,6 +46,12 @@ fn pool(expressions: &[(Tree, Flags)]) -> Pool {
     }
     pool.check_links().expect("an admitted pool");
     pool
+}
+
+/// The pool of these expressions, without flags.
+pub fn plain_pool(trees: &[Tree]) -> Pool {
+    let expressions: Vec<_> = trees.iter().map(|tree| (tree.clone(), Flags::NONE)).collect();
+    pool(&expressions)
 }
 
 pub fn leaf(kind: Kind, id: u16) -> Tree {

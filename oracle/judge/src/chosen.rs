@@ -35,16 +35,16 @@ impl Chosen {
 
     /// The case as a run, where it is one: requests without results, and a build at the end.
     pub fn of_case(case: &Case) -> Option<Chosen> {
-        let commands = match case.script.commands.split_last() {
+        let commands = match case.question.commands.split_last() {
             Some((Command::Build, before)) => before,
-            _ => &case.script.commands[..],
+            _ => &case.question.commands[..],
         };
         let is_plain =
             |command: &Command| matches!(command, Command::Request(r) if r.asked.is_none());
         if !commands.iter().all(is_plain) {
             return None;
         }
-        let chosen = Chosen::of_script(&case.name, &case.script);
+        let chosen = Chosen::of_script(&case.name, &case.question);
         Some(Chosen { note: case.note.clone(), ..chosen })
     }
 

@@ -24,12 +24,12 @@ fn small_case(tree: &Tree, muladd: bool) -> Case {
     }
     let commands = [request(0, false, muladd), BUILD, request(0, true, muladd), BUILD];
     let name = format!("small-{}{}", describe(tree), if muladd { "-fused" } else { "" });
-    Case::new(&name, &expressions, &commands)
+    Case::of(&name, &expressions, &commands)
 }
 
 fn fusing_case(tree: &Tree) -> Case {
     let name = format!("fusing-{}", describe(tree));
-    Case::new(&name, &[(tree.clone(), Flags::NONE)], &[fused(0), BUILD])
+    Case::of(&name, &[(tree.clone(), Flags::NONE)], &[fused(0), BUILD])
 }
 
 fn mentions(tree: &Tree, kind: Kind) -> bool {

@@ -1,5 +1,7 @@
 //! The bytes of document 01, each named once, with the original's words for them.
 
+use crate::refusals::{DOUBLE_PRIME, NOT_THERE, NO_BLOCK, NO_PRIMED_MARK};
+
 /// A kind of node or of reference, as its byte.
 #[derive(Clone, Copy, Debug, PartialEq, Eq, PartialOrd, Ord)]
 pub struct Kind(u8);
@@ -215,10 +217,10 @@ pub enum Refusal {
 impl Refusal {
     pub fn number(self) -> u8 {
         match self {
-            Refusal::NoSuchExpression => 3,
-            Refusal::DoublePrime => 5,
-            Refusal::PrimedResult => 7,
-            Refusal::NoBlock => 8,
+            Refusal::NoSuchExpression => NOT_THERE,
+            Refusal::DoublePrime => DOUBLE_PRIME,
+            Refusal::PrimedResult => NO_PRIMED_MARK,
+            Refusal::NoBlock => NO_BLOCK,
         }
     }
 }

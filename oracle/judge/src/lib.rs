@@ -8,7 +8,8 @@
 //! like in its output, `program` asks it, `differ` compares on random inputs and `shrink` makes
 //! smaller what differs; `chosen` thinks up inputs, and `texts`, `runs` and `stored_runs` keep them.
 //!
-//! `command` is what the command lines of this and of other programs do alike.
+//! `command` is what the command lines of this and of other programs do alike, `refusals` are document 01's
+//! numbers.
 
 pub mod answer;
 pub mod case;
@@ -23,6 +24,7 @@ pub mod pool;
 pub mod printed;
 pub mod program;
 pub mod random;
+pub mod refusals;
 pub mod run;
 pub mod runs;
 pub mod script;

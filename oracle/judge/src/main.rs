@@ -11,7 +11,7 @@ use judge::runs;
 use judge::script::{numbered, Script};
 use judge::stored;
 use judge::stored_runs;
-use judge::vectors::{self, Vector};
+use judge::vectors;
 use std::io::{self, Read};
 use std::process::ExitCode;
 
@@ -56,7 +56,7 @@ fn asked(words: &[&str]) -> Option<Done> {
     Some(match *words {
         ["run"] | ["run", "-"] => standard_input().and_then(|text| answer("standard input", &text)),
         ["run", file] => contents(file).and_then(|text| answer(file, &text)),
-        ["check", file] => contents(file).and_then(|text| check(file, &text)),
+        ["check", file] => vectors::check("generation", file, stored::parse, stored::ask),
         ["write"] => stored::text().and_then(|text| print(&text)),
         ["random", seed, count] => random_vectors(seed, count, None),
         ["random", seed, count, nodes] => random_vectors(seed, count, Some(nodes)),
@@ -85,22 +85,6 @@ fn answer(source: &str, text: &str) -> Done {
     print(&run(&script)?.iter().map(Answer::to_string).collect::<String>())
 }
 
-fn check(file: &str, text: &str) -> Done {
-    let vectors = vectors::parse(text).map_err(|fault| format!("{}, {}", file, fault))?;
-    if vectors.is_empty() {
-        return Err(format!("{} has no vectors", file));
-    }
-    let mut equal = 0;
-    for vector in &vectors {
-        match vector.difference() {
-            Ok(None) => equal += 1,
-            Ok(Some(difference)) => eprintln!("{}: {}", vector.name, difference),
-            Err(text) => eprintln!("{}: {}", vector.name, text),
-        }
-    }
-    compared("generation", "vectors", vectors.len(), equal)
-}
-
 fn random_vectors(seed: &str, count: &str, nodes: Option<&str>) -> Done {
     let seed = number(seed, "SEED")?;
     let nodes = match nodes {
@@ -108,7 +92,7 @@ fn random_vectors(seed: &str, count: &str, nodes: Option<&str>) -> Done {
         None => None,
     };
     for index in 0..number(count, "COUNT")? {
-        let vector = Vector::of(random::case(seed, index, nodes))?;
+        let vector = stored::vector(random::case(seed, index, nodes))?;
         print(&format!("{}{}", if index == 0 { "" } else { "\n" }, vector))?;
     }
     Ok(ExitCode::SUCCESS)

@@ -107,7 +107,7 @@ pub fn case(seed: u64, index: u64, nodes: Option<usize>) -> Case {
     let pool = random_pool(random, size);
     let commands = random_commands(random, size, pool.expressions().len());
     let name = format!("random-{}-{:03}", seed, index);
-    Case { name, note: None, script: Script { pool, commands } }
+    Case::new(&name, Script { pool, commands })
 }
 
 /// An admitted pool of so many nodes, in up to so many expressions.
@@ -373,7 +373,7 @@ mod tests {
 
     #[test]
     fn a_case_depends_on_its_seed_and_index_only() {
-        let text = |seed, index| case(seed, index, None).script.to_string();
+        let text = |seed, index| case(seed, index, None).question.to_string();
         assert_eq!(text(7, 3), text(7, 3));
         assert_ne!(text(7, 3), text(7, 4));
         assert_ne!(text(7, 3), text(8, 3));
@@ -445,12 +445,12 @@ mod tests {
     #[test]
     fn sizes_are_kept() {
         for index in 0..200 {
-            let nodes = case(1, index, None).script.pool.nodes().len();
+            let nodes = case(1, index, None).question.pool.nodes().len();
             let large = index % LARGE_EVERY == LARGE_EVERY - 1;
             let (low, high) = if large { LARGE.nodes } else { SMALL.nodes };
             assert!((low..=high).contains(&nodes), "case {} has {} nodes", index, nodes);
         }
-        assert_eq!(case(1, 0, Some(300)).script.pool.nodes().len(), 300);
-        assert_eq!(case(1, 0, Some(1 << 20)).script.pool.nodes().len(), MAX_NODES);
+        assert_eq!(case(1, 0, Some(300)).question.pool.nodes().len(), 300);
+        assert_eq!(case(1, 0, Some(1 << 20)).question.pool.nodes().len(), MAX_NODES);
     }
 }

@@ -2,7 +2,7 @@
 
 use crate::printed::Printed;
 use crate::program::Program;
-use crate::script::{numbered, Line, Script, TextFault};
+use crate::script::{name_of, numbered, Line, Script, TextFault};
 use crate::texts::{expand, Piece};
 use std::collections::HashSet;
 use std::fmt;
@@ -73,12 +73,7 @@ pub fn parse(text: &str) -> Result<Vec<Run>, TextFault> {
     let mut runs = Vec::new();
     while let Some((line, head)) = lines.next() {
         let fault = |text: String| TextFault { line, text };
-        let name = head
-            .strip_prefix("run ")
-            .ok_or_else(|| fault(format!("`run NAME` comes here, not {:?}", head)))?;
-        if !names.insert(name) {
-            return Err(fault(format!("there are two runs {}", name)));
-        }
+        let name = name_of("run", head, &mut names).map_err(fault)?;
         let lost = |what: &str| fault(format!("this run has no line `{}`", what));
         let (input, source) =
             pieces(&mut lines, output_source)?.ok_or_else(|| lost("output SOURCE"))?;

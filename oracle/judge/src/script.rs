@@ -14,6 +14,7 @@
 use crate::hex::{self, Reader};
 use crate::kinds::Kind;
 use crate::pool::{Expression, Node, Pool, EXPRESSION_FRAME, NODE_FRAME};
+use std::collections::HashSet;
 use std::fmt;
 
 pub const REQUEST_FRAME: u8 = 0x03;
@@ -70,6 +71,20 @@ pub fn numbered(text: &str) -> impl Iterator<Item = Line<'_>> {
         .enumerate()
         .map(|(index, line)| (index + 1, line))
         .filter(|(_, line)| !line.is_empty() && !line.starts_with('#'))
+}
+
+/// The name in a line `WORD NAME`, which none of `names` is; it is put to these.
+pub fn name_of<'a>(
+    word: &str,
+    line: &'a str,
+    names: &mut HashSet<&'a str>,
+) -> Result<&'a str, String> {
+    let name = line.strip_prefix(word).and_then(|rest| rest.strip_prefix(' '));
+    let name = name.ok_or_else(|| format!("`{} NAME` comes here, not {:?}", word, line))?;
+    match names.insert(name) {
+        true => Ok(name),
+        false => Err(format!("there are two {}s {}", word, name)),
+    }
 }
 
 impl Script {

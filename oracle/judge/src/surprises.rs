@@ -23,11 +23,11 @@ pub fn documents() -> Vec<Case> {
     let run = || [(add(mul(cm(0), cm(1)), constant(0).next()), NONE)];
     let products = add(mul(cm(0), cm(1)), mul(cm(2), cm(3)));
     vec![
-        Case::new("doc-run-fused", &run(), &[fused(0), BUILD]),
-        Case::new("doc-run", &run(), &[plain(0), BUILD]),
-        Case::new("doc-two-products-fused", &[(products, NONE)], &[fused(0), BUILD]),
-        Case::new("doc-neg", &[(neg(cm(0)), NONE)], &[plain(0), BUILD]),
-        Case::new("doc-bare-cm", &[(cm(0), NONE)], &[plain(0), BUILD]),
+        Case::of("doc-run-fused", &run(), &[fused(0), BUILD]),
+        Case::of("doc-run", &run(), &[plain(0), BUILD]),
+        Case::of("doc-two-products-fused", &[(products, NONE)], &[fused(0), BUILD]),
+        Case::of("doc-neg", &[(neg(cm(0)), NONE)], &[plain(0), BUILD]),
+        Case::of("doc-bare-cm", &[(cm(0), NONE)], &[plain(0), BUILD]),
     ]
 }
 
@@ -61,26 +61,26 @@ fn g01_refusals() -> Vec<Case> {
     let through_next = [(cm(0).next(), NONE), (exp(0).next(), NONE), (exp(1), NONE)];
     let beside = [(mul(cm(0), exp(1).next()), NONE), (cm(1), NONE)];
     vec![
-        Case::new("g01-double-prime", &pool(), &[primed(2)])
+        Case::of("g01-double-prime", &pool(), &[primed(2)])
             .note("the original leaves block e0' behind"),
-        Case::new("g01-double-prime-plain", &pool(), &[plain(2), BUILD])
+        Case::of("g01-double-prime-plain", &pool(), &[plain(2), BUILD])
             .note("the same pool, not primed: nothing is wrong"),
-        Case::new("g01-double-prime-later", &pool(), &[plain(2), plain(0), primed(2)]),
-        Case::new("g01-double-prime-exp", &beside, &[plain(0), primed(0)]),
-        Case::new("g01-double-prime-through-next", &through_next, &[plain(0), plain(2)])
+        Case::of("g01-double-prime-later", &pool(), &[plain(2), plain(0), primed(2)]),
+        Case::of("g01-double-prime-exp", &beside, &[plain(0), primed(0)]),
+        Case::of("g01-double-prime-through-next", &through_next, &[plain(0), plain(2)])
             .note("a plain request: e1 asks for e0', whose leaf has next"),
-        Case::new("g01-primed-result", &pool(), &[asking(0, true, Kind::F, 0)]),
-        Case::new(
+        Case::of("g01-primed-result", &pool(), &[asking(0, true, Kind::F, 0)]),
+        Case::of(
             "g01-primed-result-after-plain",
             &pool(),
             &[plain(0), asking(0, true, Kind::Q, 1)],
         )
         .note("the plain mark does not help"),
-        Case::new("g01-double-prime-before-result", &pool(), &[asking(2, true, Kind::F, 0)])
+        Case::of("g01-double-prime-before-result", &pool(), &[asking(2, true, Kind::F, 0)])
             .note("5 comes before 7"),
-        Case::new("g01-no-expression", &pool(), &[plain(3)]),
-        Case::new("g01-no-expression-late", &pool(), &[plain(0), BUILD, primed(65535)]),
-        Case::new("g01-no-expression-result", &pool(), &[asking(3, true, Kind::F, 0)]),
+        Case::of("g01-no-expression", &pool(), &[plain(3)]),
+        Case::of("g01-no-expression-late", &pool(), &[plain(0), BUILD, primed(65535)]),
+        Case::of("g01-no-expression-result", &pool(), &[asking(3, true, Kind::F, 0)]),
     ]
 }
 
@@ -91,18 +91,18 @@ fn g02_blocks_skipped_by_number() -> Vec<Case> {
     let (both, swapped) = ([plain(2), primed(2)], [primed(2), plain(2)]);
     let with = |head: &[Command], tail: &[Command]| [head, tail, &[BUILD]].concat();
     let mut cases = vec![
-        Case::new("g02-unrelated-block", &pool(KEEP), &with(&both, &[plain(0)]))
+        Case::of("g02-unrelated-block", &pool(KEEP), &with(&both, &[plain(0)]))
             .note("e2 stands plain and primed, so block 2 is skipped, and that is e0's"),
-        Case::new("g02-primed-block", &pool(KEEP), &with(&both, &[primed(0)]))
+        Case::of("g02-primed-block", &pool(KEEP), &with(&both, &[primed(0)]))
             .note("block 2 is primed: it stays in i and goes in last"),
-        Case::new("g02-primed-first", &pool(KEEP), &with(&swapped, &[plain(1), plain(0)])),
-        Case::new("g02-own-block", &pool(KEEP), &with(&[plain(0), plain(1)], &both)),
-        Case::new("g02-own-primed-block", &pool(KEEP), &with(&[plain(0), plain(1)], &swapped)),
-        Case::new("g02-no-such-block", &pool(KEEP), &with(&both, &[])).note("there is no block 2"),
-        Case::new("g02-no-flag", &pool(NONE), &with(&both, &[plain(0)])),
-        Case::new("g02-plain-only", &pool(KEEP), &with(&[plain(2)], &[plain(0), plain(1)])),
-        Case::new("g02-primed-only", &pool(KEEP), &with(&[primed(2)], &[plain(0), plain(1)])),
-        Case::new(
+        Case::of("g02-primed-first", &pool(KEEP), &with(&swapped, &[plain(1), plain(0)])),
+        Case::of("g02-own-block", &pool(KEEP), &with(&[plain(0), plain(1)], &both)),
+        Case::of("g02-own-primed-block", &pool(KEEP), &with(&[plain(0), plain(1)], &swapped)),
+        Case::of("g02-no-such-block", &pool(KEEP), &with(&both, &[])).note("there is no block 2"),
+        Case::of("g02-no-flag", &pool(NONE), &with(&both, &[plain(0)])),
+        Case::of("g02-plain-only", &pool(KEEP), &with(&[plain(2)], &[plain(0), plain(1)])),
+        Case::of("g02-primed-only", &pool(KEEP), &with(&[primed(2)], &[plain(0), plain(1)])),
+        Case::of(
             "g02-block-with-results",
             &pool(KEEP),
             &with(&both, &[asking(0, false, Kind::F, 0), asking(0, false, Kind::Q, 7), plain(1)]),
@@ -111,7 +111,7 @@ fn g02_blocks_skipped_by_number() -> Vec<Case> {
     ];
     let four = [plain(0), primed(0), plain(1), primed(1), BUILD];
     for (a, b, name) in [(KEEP, NONE, "e0"), (NONE, KEEP, "e1"), (ID_Q, KEEP2NS, "both")] {
-        cases.push(Case::new(&format!("g02-four-blocks-{}", name), &first(a, b), &four));
+        cases.push(Case::of(&format!("g02-four-blocks-{}", name), &first(a, b), &four));
     }
     cases
 }
@@ -119,8 +119,8 @@ fn g02_blocks_skipped_by_number() -> Vec<Case> {
 fn g03_only_blocks_since_the_last_build() -> Vec<Case> {
     let pool = [(mul(cm(0), cm(1)), KEEP), (cm(2), NONE)];
     vec![
-        Case::new("g03-build-between", &pool, &[plain(0), BUILD, primed(0), BUILD]),
-        Case::new("g03-no-build-between", &pool, &[plain(0), primed(0), BUILD, BUILD])
+        Case::of("g03-build-between", &pool, &[plain(0), BUILD, primed(0), BUILD]),
+        Case::of("g03-no-build-between", &pool, &[plain(0), primed(0), BUILD, BUILD])
             .note("a second build has nothing to give"),
     ]
 }
@@ -136,9 +136,9 @@ fn g04_reading_what_is_skipped() -> Vec<Case> {
     ];
     let own = [(mul(cm(2), cm(3)), KEEP), (reader(0), NONE)];
     vec![
-        Case::new("g04-reads-a-skipped-block", &later, &[plain(4), BUILD])
+        Case::of("g04-reads-a-skipped-block", &later, &[plain(4), BUILD])
             .note("e3 is block 2, so i and last copy exp3, which no step of theirs writes"),
-        Case::new("g04-reads-its-own-skipped-block", &own, &[plain(1), BUILD]),
+        Case::of("g04-reads-its-own-skipped-block", &own, &[plain(1), BUILD]),
     ]
 }
 
@@ -148,30 +148,30 @@ fn g05_marks_after_a_build() -> Vec<Case> {
         (0..8).map(|byte| (cm(byte), Flags::from_byte(byte as u8).expect("flags"))).collect();
     let all: Vec<Command> = (0..8).map(plain).chain([BUILD]).chain((0..8).map(primed)).collect();
     vec![
-        Case::new("g05-marks-of-each-flag", &four, &[BUILD])
+        Case::of("g05-marks-of-each-flag", &four, &[BUILD])
             .note("keep2ns alone does not protect from the mark"),
-        Case::new("g05-marks-of-all-flags", &eight, &[BUILD]),
-        Case::new("g05-marks-and-requests", &eight, &[&all[..], &[BUILD]].concat()),
+        Case::of("g05-marks-of-all-flags", &eight, &[BUILD]),
+        Case::of("g05-marks-and-requests", &eight, &[&all[..], &[BUILD]].concat()),
     ]
 }
 
 fn g06_marked_dependencies() -> Vec<Case> {
     let pool = || [(mul(cm(0), cm(1)), NONE), (neg(cm(2)), NONE), (sum(0, 1), KEEP)];
     vec![
-        Case::new("g06-empty-build-first", &pool(), &[BUILD, plain(2), BUILD])
+        Case::of("g06-empty-build-first", &pool(), &[BUILD, plain(2), BUILD])
             .note("only the sum is emitted"),
-        Case::new("g06-empty-build-first-primed", &pool(), &[BUILD, primed(2), BUILD]),
-        Case::new("g06-no-build-first", &pool(), &[plain(2), BUILD]),
+        Case::of("g06-empty-build-first-primed", &pool(), &[BUILD, primed(2), BUILD]),
+        Case::of("g06-no-build-first", &pool(), &[plain(2), BUILD]),
     ]
 }
 
 fn g07_marks_hide_a_double_prime() -> Vec<Case> {
     let pool = |flags| [(mul(cm(0), cm(1)), NONE), (cm(2).next(), flags), (sum(0, 1), KEEP)];
     vec![
-        Case::new("g07-hidden", &pool(NONE), &[BUILD, primed(2), BUILD])
+        Case::of("g07-hidden", &pool(NONE), &[BUILD, primed(2), BUILD])
             .note("e1' is marked by the build, so its leaf is never looked at"),
-        Case::new("g07-not-hidden", &pool(NONE), &[primed(2)]),
-        Case::new("g07-protected", &pool(ID_Q), &[BUILD, primed(2)])
+        Case::of("g07-not-hidden", &pool(NONE), &[primed(2)]),
+        Case::of("g07-protected", &pool(ID_Q), &[BUILD, primed(2)])
             .note("a flagged e1 is not marked, so it is evaluated"),
     ]
 }
@@ -183,24 +183,24 @@ fn g08_results() -> Vec<Case> {
     let every_plain: Vec<Command> = every(false).collect();
     let f_then_q = [asking(0, false, Kind::F, 0), asking(0, false, Kind::Q, 7), BUILD];
     vec![
-        Case::new("g08-chain", &product, &f_then_q),
-        Case::new("g08-chain-after-request", &product, &[&[plain(0)], &f_then_q[..]].concat()),
-        Case::new("g08-every-kind", &product, &every_plain),
-        Case::new("g08-every-kind-primed", &product, &every_primed)
+        Case::of("g08-chain", &product, &f_then_q),
+        Case::of("g08-chain-after-request", &product, &[&[plain(0)], &f_then_q[..]].concat()),
+        Case::of("g08-every-kind", &product, &every_plain),
+        Case::of("g08-every-kind-primed", &product, &every_primed)
             .note("a primed block may be copied; only a fresh primed result is refused"),
-        Case::new("g08-same-twice", &product, &[f_then_q[0], f_then_q[0], BUILD]),
-        Case::new(
+        Case::of("g08-same-twice", &product, &[f_then_q[0], f_then_q[0], BUILD]),
+        Case::of(
             "g08-leaf-root",
             &product,
             &[asking(1, false, Kind::F, 65535), plain(0), asking(1, false, Kind::TMP, 0), BUILD],
         ),
-        Case::new(
+        Case::of(
             "g08-earlier-block",
             &product,
             &[plain(0), plain(1), primed(1), asking(0, false, Kind::EXP, 1), BUILD],
         )
         .note("the copy is put at the end of its block, not of the list"),
-        Case::new(
+        Case::of(
             "g08-plain-and-primed",
             &product,
             &[
@@ -218,10 +218,10 @@ fn g09_results_that_fail_later() -> Vec<Case> {
     let pool = [(mul(cm(0), cm(1)), NONE)];
     let through = |kind| [asking(0, false, kind, 0), asking(0, false, Kind::Q, 0), BUILD];
     vec![
-        Case::new("g09-f-as-source", &pool, &through(Kind::F))
+        Case::of("g09-f-as-source", &pool, &through(Kind::F))
             .note("accepted here; the dimension pass has no rule for f as a source"),
-        Case::new("g09-tmpexp-as-source", &pool, &through(Kind::TMP_EXP)),
-        Case::new("g09-tree-as-source", &pool, &through(Kind::TREE1)),
+        Case::of("g09-tmpexp-as-source", &pool, &through(Kind::TMP_EXP)),
+        Case::of("g09-tree-as-source", &pool, &through(Kind::TREE1)),
     ]
 }
 
@@ -229,15 +229,15 @@ fn g10_no_result_after_a_build() -> Vec<Case> {
     let pool = || [(mul(cm(0), cm(1)), NONE), (neg(cm(2)), KEEP), (exp(1), NONE)];
     let ask = |expression, prime| asking(expression, prime, Kind::F, 0);
     vec![
-        Case::new("g10-just-generated", &pool(), &[plain(0), BUILD, ask(0, false)]),
-        Case::new("g10-just-generated-keep", &pool(), &[plain(1), BUILD, ask(1, false)]),
-        Case::new("g10-never-generated", &pool(), &[BUILD, ask(0, false)]),
-        Case::new("g10-never-generated-primed", &pool(), &[BUILD, ask(0, true)])
+        Case::of("g10-just-generated", &pool(), &[plain(0), BUILD, ask(0, false)]),
+        Case::of("g10-just-generated-keep", &pool(), &[plain(1), BUILD, ask(1, false)]),
+        Case::of("g10-never-generated", &pool(), &[BUILD, ask(0, false)]),
+        Case::of("g10-never-generated-primed", &pool(), &[BUILD, ask(0, true)])
             .note("marked, so 8 and not 7"),
-        Case::new("g10-never-generated-keep", &pool(), &[BUILD, ask(1, false), BUILD])
+        Case::of("g10-never-generated-keep", &pool(), &[BUILD, ask(1, false), BUILD])
             .note("not marked, so it is generated"),
-        Case::new("g10-never-generated-keep-primed", &pool(), &[BUILD, ask(1, true)]),
-        Case::new("g10-as-dependency", &pool(), &[plain(2), ask(1, false), BUILD, ask(2, false)]),
+        Case::of("g10-never-generated-keep-primed", &pool(), &[BUILD, ask(1, true)]),
+        Case::of("g10-as-dependency", &pool(), &[plain(2), ask(1, false), BUILD, ask(2, false)]),
     ]
 }
 
@@ -247,11 +247,11 @@ fn g11_dependencies_of_the_unfused_tree() -> Vec<Case> {
     let second = || add(exp(0), mul(exp(1), exp(2)));
     let first = || add(mul(exp(2), exp(1)), exp(0));
     vec![
-        Case::new("g11-second-is-mul", &with(second()), &[fused(3), BUILD])
+        Case::of("g11-second-is-mul", &with(second()), &[fused(3), BUILD])
             .note("blocks e0, e1, e2; then muladd exp1 exp2 exp0"),
-        Case::new("g11-second-is-mul-primed", &with(second()), &[request(3, true, true), BUILD]),
-        Case::new("g11-second-is-mul-not-fused", &with(second()), &[plain(3), BUILD]),
-        Case::new("g11-first-is-mul", &with(first()), &[fused(3), BUILD]),
+        Case::of("g11-second-is-mul-primed", &with(second()), &[request(3, true, true), BUILD]),
+        Case::of("g11-second-is-mul-not-fused", &with(second()), &[plain(3), BUILD]),
+        Case::of("g11-first-is-mul", &with(first()), &[fused(3), BUILD]),
     ]
 }
 
@@ -259,17 +259,17 @@ fn g12_the_first_form_stays() -> Vec<Case> {
     let fusible = || add(mul(cm(0), cm(1)), cm(2));
     let pool = || [(fusible(), NONE), (add(mul(exp(0), cm(3)), cm(4)), NONE)];
     vec![
-        Case::new("g12-dependency-first", &pool(), &[fused(1), fused(0), BUILD])
+        Case::of("g12-dependency-first", &pool(), &[fused(1), fused(0), BUILD])
             .note("a dependency is never fused, nor is it afterwards"),
-        Case::new("g12-fused-first", &pool(), &[fused(0), plain(1), BUILD]),
-        Case::new("g12-plain-first", &pool(), &[plain(0), fused(0), BUILD]),
-        Case::new("g12-each-prime-its-own", &pool(), &[plain(0), request(0, true, true), BUILD]),
+        Case::of("g12-fused-first", &pool(), &[fused(0), plain(1), BUILD]),
+        Case::of("g12-plain-first", &pool(), &[plain(0), fused(0), BUILD]),
+        Case::of("g12-each-prime-its-own", &pool(), &[plain(0), request(0, true, true), BUILD]),
     ]
 }
 
 fn g13_what_fuses() -> Vec<Case> {
     let inner = || add(mul(cm(0), cm(1)), cm(2));
-    let case = |name: &str, tree| Case::new(name, &[(tree, NONE)], &[fused(0), BUILD]);
+    let case = |name: &str, tree| Case::of(name, &[(tree, NONE)], &[fused(0), BUILD]);
     vec![
         case("g13-in-muladd", muladd(inner(), neg(inner()), inner())),
         case("g13-in-mulc", mulc(inner(), 3)),
@@ -292,10 +292,10 @@ fn g14_next_on_operations() -> Vec<Case> {
     let pool = [(tree(), NONE), (exp(0), NONE)];
     let all = muladd(addc(cm(0), 1).next(), sub(cm(1), cm(2)).next(), cm(3).next()).next();
     vec![
-        Case::new("g14-plain", &pool, &[plain(1), BUILD]),
-        Case::new("g14-primed", &pool, &[primed(1), BUILD]),
-        Case::new("g14-fused", &pool, &[fused(0), request(0, true, true), BUILD]),
-        Case::new("g14-beside-a-leaf-with-next", &[(all, KEEP)], &[plain(0), BUILD, primed(0)])
+        Case::of("g14-plain", &pool, &[plain(1), BUILD]),
+        Case::of("g14-primed", &pool, &[primed(1), BUILD]),
+        Case::of("g14-fused", &pool, &[fused(0), request(0, true, true), BUILD]),
+        Case::of("g14-beside-a-leaf-with-next", &[(all, KEEP)], &[plain(0), BUILD, primed(0)])
             .note("the leaf's own next counts"),
     ]
 }
@@ -303,7 +303,7 @@ fn g14_next_on_operations() -> Vec<Case> {
 fn g15_flags_by_presence() -> Vec<Case> {
     let commands = [plain(0), primed(0), BUILD, plain(0), primed(0), BUILD];
     let case = |(flags, word): (Flags, &str)| {
-        Case::new(&format!("g15-{}", word), &[(mul(cm(0), cm(1)), flags)], &commands)
+        Case::of(&format!("g15-{}", word), &[(mul(cm(0), cm(1)), flags)], &commands)
     };
     EACH_FLAG.into_iter().chain([(NONE, "none")]).map(case).collect()
 }
@@ -326,10 +326,10 @@ fn literals() -> Vec<Case> {
         (0..pool.len() as u16).map(plain).chain([BUILD]).collect()
     };
     vec![
-        Case::new("edge-numbers", &numbers, &all(&numbers)),
-        Case::new("edge-addc", &each(addc), &all(&each(addc))),
-        Case::new("edge-mulc", &each(mulc), &all(&each(mulc))),
-        Case::new(
+        Case::of("edge-numbers", &numbers, &all(&numbers)),
+        Case::of("edge-addc", &each(addc), &all(&each(addc))),
+        Case::of("edge-mulc", &each(mulc), &all(&each(mulc))),
+        Case::of(
             "edge-literals-primed",
             &[(add(number(-5), addc(mulc(constant(0), i64::MIN), -1)), NONE)],
             &[primed(0), BUILD],
@@ -346,9 +346,9 @@ fn ids() -> Vec<Case> {
     let many: Vec<(Tree, Flags)> =
         (0..40).map(|e| (cm(e), NONE)).chain([(sum(39, 0), NONE)]).collect();
     vec![
-        Case::new("edge-ids", &pool, &requests.chain([BUILD]).collect::<Vec<_>>()),
-        Case::new("edge-many-expressions", &many, &[plain(40), primed(20), BUILD]),
-        Case::new("edge-no-expression", &[], &[BUILD, plain(0)]),
+        Case::of("edge-ids", &pool, &requests.chain([BUILD]).collect::<Vec<_>>()),
+        Case::of("edge-many-expressions", &many, &[plain(40), primed(20), BUILD]),
+        Case::of("edge-no-expression", &[], &[BUILD, plain(0)]),
     ]
 }
 
@@ -367,18 +367,18 @@ fn dependencies() -> Vec<Case> {
         .chain((0..20).map(|e| (add(exp(e), mul(cm(1), exp(e))), NONE)))
         .collect();
     vec![
-        Case::new("edge-diamond", &diamond, &[plain(0), BUILD]),
-        Case::new("edge-diamond-both", &diamond, &[primed(2), plain(0), primed(0), BUILD]),
-        Case::new("edge-next-of-expression", &nexts, &[plain(2), BUILD]),
-        Case::new("edge-next-of-expression-primed", &nexts, &[primed(0), primed(2)]),
-        Case::new("edge-left-to-right", &thrice, &[fused(3), BUILD]),
-        Case::new(
+        Case::of("edge-diamond", &diamond, &[plain(0), BUILD]),
+        Case::of("edge-diamond-both", &diamond, &[primed(2), plain(0), primed(0), BUILD]),
+        Case::of("edge-next-of-expression", &nexts, &[plain(2), BUILD]),
+        Case::of("edge-next-of-expression-primed", &nexts, &[primed(0), primed(2)]),
+        Case::of("edge-left-to-right", &thrice, &[fused(3), BUILD]),
+        Case::of(
             "edge-leaf-to-leaf",
             &[(exp(1), NONE), (exp(2), NONE), (cm(0), NONE)],
             &[plain(0), primed(0), BUILD],
         ),
-        Case::new("edge-long-chain", &chain, &[fused(20), BUILD]),
-        Case::new(
+        Case::of("edge-long-chain", &chain, &[fused(20), BUILD]),
+        Case::of(
             "edge-same-leaf-twice",
             &[(cm(0), NONE), (mul(exp(0), exp(0)), NONE)],
             &[plain(1), BUILD],
@@ -390,11 +390,11 @@ fn counters() -> Vec<Case> {
     let deep = |a| mul(add(cm(a), cm(1)), sub(cm(2), neg(cm(3))));
     let pool = [(deep(0), KEEP), (deep(5), KEEP), (exp(0), KEEP), (cm(0), NONE)];
     vec![
-        Case::new("edge-counter-goes-on", &pool, &[plain(0), BUILD, plain(1), BUILD, BUILD])
+        Case::of("edge-counter-goes-on", &pool, &[plain(0), BUILD, plain(1), BUILD, BUILD])
             .note("a build does not start the numbering of temporaries again"),
-        Case::new("edge-counter-given-back", &pool, &[plain(0), plain(3), primed(1), BUILD])
+        Case::of("edge-counter-given-back", &pool, &[plain(0), plain(3), primed(1), BUILD])
             .note("a root gives its temporary back, and the next block begins with that number"),
-        Case::new(
+        Case::of(
             "edge-asked-again",
             &pool,
             &[plain(2), plain(0), plain(2), BUILD, plain(2), BUILD],

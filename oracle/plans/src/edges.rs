@@ -4,7 +4,7 @@ use crate::input::{Draft, Input};
 use crate::plan::{Plan, MAX_RECORDS};
 use crate::question::Question;
 use crate::vectors::Case;
-use crate::written::{intermediate, map, pool, pu, ratio, with_columns, SMALL};
+use crate::written::{intermediate, map, pool, pu, ratio, small, with_columns};
 use judge::case::{add, cm, constant, exp, leaf, mul, neg, Tree};
 use judge::kinds::Kind;
 use judge::pool::{Expression, Flags, Node};
@@ -42,7 +42,7 @@ fn plan() -> Plan {
         intermediates: vec![intermediate(0, 7), intermediate(1, 8)],
         qs: vec![4],
         q2exp: vec![3],
-        ..SMALL
+        ..small()
     };
     with_columns(2, plan)
 }
@@ -331,16 +331,17 @@ fn orders() -> Vec<Case> {
 #[cfg(test)]
 mod tests {
     use super::*;
-    use crate::question::{ask, Answer};
+    use crate::question::{Answer, Given};
+    use asked::question::Question;
     use judge::run::on_large_stack;
 
     #[test]
     fn as_many_records_as_there_may_be_are_mapped() {
         for more in [0, 1] {
             let question = map(&trees(), &full(more));
-            let answer = on_large_stack(|| ask(&question)).unwrap();
+            let answer = on_large_stack(|| question.ask()).unwrap();
             match answer {
-                Answer::Mapped(mapped) => {
+                Answer::Given(Given::Mapped(mapped)) => {
                     assert_eq!((more, mapped.records.len()), (0, MAX_RECORDS));
                     assert!(mapped.total > 1 << 28, "{}", mapped.total);
                 }

@@ -1,7 +1,8 @@
 //! Faults of an input, one for each way to be refused.
 
-use crate::input::{Draft, MAX_BITS, MAX_MORE_BITS};
+use crate::input::Draft;
 use crate::plan::{Intermediate, Plan, Pu, Ratio, MAX_RECORDS};
+use asked::bits::{MAX_BITS, MAX_MORE_BITS};
 use judge::kinds::Kind;
 use judge::pool::{Expression, Flags, Node};
 use judge::random::Random;

@@ -2,12 +2,10 @@
 //! no answer of the original, in document 01's order.
 
 use crate::plan::Plan;
-use crate::refusals::{BITS, CHILDREN, COUNTS, CYCLE, FULL, NOT_THERE};
+use asked::bits;
 use judge::kinds::Kind;
 use judge::pool::{leaf_into_cycle, owners, Expression, Node, Pool, MAX_EXPRESSIONS, MAX_NODES};
-
-pub const MAX_BITS: u8 = 24;
-pub const MAX_MORE_BITS: u8 = 4;
+use judge::refusals::{BITS, CHILD_COUNT, COUNTS, CYCLE, FULL, NOT_THERE};
 
 /// Nodes and expressions of well-formed frames. Whether they fit together is not said.
 #[derive(Clone, Debug, Default, PartialEq, Eq)]
@@ -47,7 +45,7 @@ impl Input {
         let plan = Plan::read(&self.plan)?;
         let pool = self.linked_pool(&plan)?;
         refused_if(has_cycle(&pool, &plan), CYCLE)?;
-        refused_if(!bits_agree(&plan), BITS)?;
+        refused_if(!bits::in_range(plan.n_bits, plan.n_bits_ext), BITS)?;
         refused_if(!counts_agree(&plan), COUNTS)?;
         Ok((pool, plan))
     }
@@ -55,7 +53,7 @@ impl Input {
     /// 2 and 3, each over the whole.
     fn linked_pool(&self, plan: &Plan) -> Result<Pool, u8> {
         let Draft { nodes, expressions } = &self.pool;
-        refused_if(!nodes.iter().all(Node::has_its_children), CHILDREN)?;
+        refused_if(!nodes.iter().all(Node::has_its_children), CHILD_COUNT)?;
         let mut pool = Pool::default();
         for node in nodes {
             pool.push_node(node.clone()).map_err(|_| NOT_THERE)?;
@@ -123,11 +121,6 @@ pub fn used_expression(leaf: &Node, plan: &Plan) -> Option<usize> {
     }
 }
 
-fn bits_agree(plan: &Plan) -> bool {
-    let Plan { n_bits, n_bits_ext, .. } = *plan;
-    n_bits <= MAX_BITS && (n_bits..=n_bits + MAX_MORE_BITS).contains(&n_bits_ext)
-}
-
 fn counts_agree(plan: &Plan) -> bool {
     let [_, n_cm2, n_cm3, n_cm4] = plan.n_cm.map(usize::from);
     n_cm2 == 2 * plan.pu.len()
@@ -138,12 +131,12 @@ fn counts_agree(plan: &Plan) -> bool {
 #[cfg(test)]
 mod tests {
     use super::*;
-    use crate::refusals::MALFORMED;
-    use crate::written::{pool, with_columns, SMALL};
+    use crate::written::{pool, small, with_columns};
     use judge::case::cm;
+    use judge::refusals::MALFORMED;
 
     fn input() -> Input {
-        Input::new(pool(&[cm(0)]), &with_columns(1, SMALL))
+        Input::new(pool(&[cm(0)]), &with_columns(1, small()))
     }
 
     #[test]

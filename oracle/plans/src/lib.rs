@@ -1,6 +1,6 @@
 //! Plans: the original's `map` and what it does to lists, asked and kept as vectors.
 //!
-//! `plan`, `input` and `lists` are what is asked about, `refusals`, `input` and `dimensions` say what
+//! `plan`, `input` and `lists` are what is asked about, `input` and `dimensions` say what
 //! document 01 refuses; `original_map`, `sections` and `walks` ask the original, `mapped` is what
 //! `map` answers. `question` puts these together, `text` and `vectors` write and read them; `surprises`,
 //! `edges`, `list_edges` and `shapes` (by way of `written`), `random`, `faults` and `random_lists` think up
@@ -18,7 +18,6 @@ pub mod plan;
 pub mod question;
 pub mod random;
 pub mod random_lists;
-pub mod refusals;
 pub mod sections;
 pub mod shapes;
 pub mod stored;

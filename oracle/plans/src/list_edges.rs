@@ -3,7 +3,7 @@
 use crate::plan::Plan;
 use crate::vectors::Case;
 use crate::walks::{Domain, Walk};
-use crate::written::{intermediate, walk, with_columns, SMALL};
+use crate::written::{intermediate, small, walk, with_columns};
 use judge::case::{cm, constant, exp, leaf, Tree};
 use judge::kinds::Kind;
 
@@ -35,7 +35,7 @@ fn plan() -> Plan {
         c_exp: 1,
         intermediates: vec![intermediate(2, 2)],
         qs: vec![0, 4],
-        ..SMALL
+        ..small()
     };
     with_columns(2, plan)
 }

@@ -4,8 +4,8 @@
 //! each); the counts of pu, pe, ci, intermediates, qs, q2exp (2 each); then the entries of each
 //! in this order, every number 2 bytes. Nothing comes after it.
 
-use crate::refusals::{FULL, MALFORMED};
 use judge::hex::Reader;
+use judge::refusals::{FULL, MALFORMED};
 use std::collections::BTreeSet;
 
 pub const MAX_RECORDS: usize = 4096;

@@ -21,14 +21,16 @@ pub enum Question {
     Sections(Vec<Record>),
 }
 
+/// What is given to a question that is not refused.
 #[derive(Clone, Debug, PartialEq, Eq)]
-pub enum Answer {
-    Refused(u8),
+pub enum Given {
     Mapped(Box<Mapped>),
     ExpDims(Vec<usize>),
     Segment(Segment),
     Placed(Box<Placed>),
 }
+
+pub type Answer = asked::question::Answer<Given>;
 
 impl Question {
     pub fn name(&self) -> &'static str {
@@ -50,68 +52,51 @@ impl Question {
     }
 }
 
-/// The answer of document 01: the original's, or a refusal. Fails where the original did what the
-/// document has no word for. Call it on a large stack.
-pub fn ask(question: &Question) -> Result<Answer, String> {
-    answer(question).or_else(|refused| refused.number().map(Answer::Refused))
-}
-
-fn answer(question: &Question) -> Result<Answer, Refused> {
-    let unforeseen = |Panic(text): Panic| Refused::Not(format!("the original panics: {}", text));
-    match question {
-        Question::Map(input) => {
-            expected(input).map(|(_, _, mapped)| Answer::Mapped(Box::new(mapped)))
-        }
-        Question::ExpDims(input) => {
-            let (pool, plan, mapped) = expected(input)?;
-            ask_exp_dims(&pool, &plan, &mapped).map(Answer::ExpDims).map_err(unforeseen)
-        }
-        Question::Walk(input, walk, segment) => {
-            let (pool, plan, mapped) = expected(input)?;
-            ask_walk(&pool, &plan, &mapped, *walk, segment).map(Answer::Segment)
-        }
-        Question::Sections(records) => {
-            ask_sections(records).map(Box::new).map(Answer::Placed).map_err(unforeseen)
-        }
-    }
-}
-
 impl asked::question::Question for Question {
     type Lines = Said;
-    type Answer = Answer;
+    type Given = Given;
 
-    fn ask(&self) -> Result<Answer, String> {
-        ask(self)
+    fn given(&self) -> Result<Given, Refused> {
+        let unforeseen =
+            |Panic(text): Panic| Refused::Not(format!("the original panics: {}", text));
+        match self {
+            Question::Map(input) => {
+                expected(input).map(|(_, _, mapped)| Given::Mapped(Box::new(mapped)))
+            }
+            Question::ExpDims(input) => {
+                let (pool, plan, mapped) = expected(input)?;
+                ask_exp_dims(&pool, &plan, &mapped).map(Given::ExpDims).map_err(unforeseen)
+            }
+            Question::Walk(input, walk, segment) => {
+                let (pool, plan, mapped) = expected(input)?;
+                ask_walk(&pool, &plan, &mapped, *walk, segment).map(Given::Segment)
+            }
+            Question::Sections(records) => {
+                ask_sections(records).map(Box::new).map(Given::Placed).map_err(unforeseen)
+            }
+        }
     }
 }
 
-impl asked::question::Answer for Answer {
+impl asked::question::Given for Given {
     type Counts = Counts;
-
-    fn refusal(&self) -> Option<u8> {
-        match self {
-            Answer::Refused(number) => Some(*number),
-            _ => None,
-        }
-    }
 
     fn count_in(&self, counts: &mut Counts) {
         match self {
-            Answer::Mapped(mapped) => counts.count_records(mapped.records.len()),
-            Answer::Segment(segment) => counts.count_steps(segment.steps().count()),
-            Answer::Refused(_) | Answer::ExpDims(_) | Answer::Placed(_) => {}
+            Given::Mapped(mapped) => counts.count_records(mapped.records.len()),
+            Given::Segment(segment) => counts.count_steps(segment.steps().count()),
+            Given::ExpDims(_) | Given::Placed(_) => {}
         }
     }
 }
 
-impl fmt::Display for Answer {
+impl fmt::Display for Given {
     fn fmt(&self, f: &mut fmt::Formatter<'_>) -> fmt::Result {
         match self {
-            Answer::Refused(number) => writeln!(f, "refused {}", number),
-            Answer::Mapped(mapped) => mapped.fmt(f),
-            Answer::ExpDims(dims) => writeln!(f, "dims {}", listed(dims)),
-            Answer::Segment(segment) => segment.fmt(f),
-            Answer::Placed(placed) => placed.fmt(f),
+            Given::Mapped(mapped) => mapped.fmt(f),
+            Given::ExpDims(dims) => writeln!(f, "dims {}", listed(dims)),
+            Given::Segment(segment) => segment.fmt(f),
+            Given::Placed(placed) => placed.fmt(f),
         }
     }
 }

@@ -3,8 +3,7 @@
 use crate::mapped::{section_name, Record, Widths, F_2NS};
 use crate::original_map::{caught, Panic};
 use asked::text::listed;
-use judge::case::{cm, Case};
-use judge::pool::Flags;
+use judge::case::{cm, plain_pool};
 use judge::run::pil;
 use original::starkinfo::{Program, StarkInfo};
 use original::starkinfo_codegen::PolType;
@@ -49,7 +48,7 @@ fn polynomial(record: &Record) -> PolType {
 
 /// One expression, the column cm0, whose dimension nothing fills in.
 fn pil_of_a_column() -> PIL {
-    pil(&Case::new("", &[(cm(0), Flags::NONE)], &[]).script.pool)
+    pil(&plain_pool(&[cm(0)]))
 }
 
 impl fmt::Display for Placed {

@@ -2,7 +2,7 @@
 
 use crate::plan::Plan;
 use crate::vectors::Case;
-use crate::written::{intermediate, map, pu, ratio, with_columns, SMALL};
+use crate::written::{intermediate, map, pu, ratio, small, with_columns};
 use judge::case::{add, cm, exp, leaf, mul, Tree};
 use judge::kinds::Kind;
 
@@ -39,7 +39,7 @@ fn shape(counts: [u16; 5]) -> Case {
         intermediates: (0..intermediates).map(|i| intermediate(i + 1, first + i)).collect(),
         q_deg,
         c_exp: 2,
-        ..SMALL
+        ..small()
     };
     let digits: String = counts.iter().map(|count| count.to_string()).collect();
     Case::new(&format!("shape-{}", digits), map(&trees(), &with_columns(2, plan)))

@@ -7,7 +7,7 @@ use crate::plan::Plan;
 use crate::question::Question;
 use crate::vectors::Case;
 use crate::walks::{Domain, Walk};
-use crate::written::{exp_dims, intermediate, map, pu, ratio, walk, with_columns, SMALL};
+use crate::written::{exp_dims, intermediate, map, pu, ratio, small, walk, with_columns};
 use judge::case::{add, cm, constant, exp, leaf, mul, mulc, Tree};
 use judge::kinds::Kind;
 
@@ -71,8 +71,12 @@ fn two() -> Vec<Tree> {
 
 /// Two columns of cm1, a product and an intermediate of dimension 1.
 fn a_product_and_an_intermediate() -> Plan {
-    let plan =
-        Plan { pe: vec![ratio(1, 1)], intermediates: vec![intermediate(0, 3)], q_deg: 1, ..SMALL };
+    let plan = Plan {
+        pe: vec![ratio(1, 1)],
+        intermediates: vec![intermediate(0, 3)],
+        q_deg: 1,
+        ..small()
+    };
     with_columns(2, plan)
 }
 
@@ -104,11 +108,16 @@ fn m02_two_dimensions_of_a_column() -> Vec<Case> {
 }
 
 fn m03_tmp_exp_has_its_expressions_dimension() -> Vec<Case> {
-    let plan = with_columns(2, Plan { ci: vec![ratio(0, 1)], ..SMALL });
+    let plan = with_columns(2, Plan { ci: vec![ratio(0, 1)], ..small() });
     let list = ["first exp:0 = copy cm:0", "first exp:1 = add exp:0 exp:1'"];
     let zero = with_columns(
         2,
-        Plan { ci: vec![ratio(3, 3)], intermediates: vec![intermediate(0, 3)], q_deg: 1, ..SMALL },
+        Plan {
+            ci: vec![ratio(3, 3)],
+            intermediates: vec![intermediate(0, 3)],
+            q_deg: 1,
+            ..small()
+        },
     );
     vec![
         Case::new("m03-columns", map(&two(), &plan)),
@@ -125,7 +134,7 @@ fn m03_tmp_exp_has_its_expressions_dimension() -> Vec<Case> {
 
 /// Two columns of cm1 and a lookup of dimension 3. Records 4 and 5 are of its column h1.
 fn a_lookup(qs: Vec<u16>) -> Plan {
-    with_columns(2, Plan { pu: vec![pu(0, 1, 0, 1)], qs, q_deg: 1, ..SMALL })
+    with_columns(2, Plan { pu: vec![pu(0, 1, 0, 1)], qs, q_deg: 1, ..small() })
 }
 
 fn m04_q_reads_a_record() -> Vec<Case> {
@@ -143,7 +152,7 @@ fn m04_q_reads_a_record() -> Vec<Case> {
 
 fn m05_two_tables_of_q() -> Vec<Case> {
     let trees = [leaf(Kind::Q, 0), cm(0)];
-    let plan = |qs, q2exp| with_columns(1, Plan { qs, q2exp, ..SMALL });
+    let plan = |qs, q2exp| with_columns(1, Plan { qs, q2exp, ..small() });
     let list = ["first tmp:0 = copy q:0"];
     vec![
         Case::new("m05-leaf", map(&trees, &plan(vec![], vec![1]))),
@@ -156,7 +165,7 @@ fn m05_two_tables_of_q() -> Vec<Case> {
 fn m06_fixing_keeps_the_prime() -> Vec<Case> {
     let plan = with_columns(
         2,
-        Plan { pe: vec![ratio(1, 1)], intermediates: vec![intermediate(0, 3)], ..SMALL },
+        Plan { pe: vec![ratio(1, 1)], intermediates: vec![intermediate(0, 3)], ..small() },
     );
     let list = [
         "counter 6",
@@ -188,7 +197,7 @@ fn m07_an_intermediate_has_no_p() -> Vec<Case> {
 }
 
 fn m08_new_temporaries() -> Vec<Case> {
-    let plan = with_columns(2, SMALL);
+    let plan = with_columns(2, small());
     let list = [
         "counter 4",
         "first exp:0 = add exp:1 exp:1'",
@@ -202,7 +211,7 @@ fn m08_new_temporaries() -> Vec<Case> {
 }
 
 fn m09_temporaries_of_a_segment() -> Vec<Case> {
-    let plan = with_columns(2, SMALL);
+    let plan = with_columns(2, small());
     let ask = |name: &str, lines: &[&str]| Case::new(name, walk(&two(), &plan, Walk::Dims, lines));
     vec![
         ask("m09-written-in-first", &["first tmp:0 = copy cm:0", "last tmp:1 = copy tmp:0"]),
@@ -216,7 +225,7 @@ fn m09_temporaries_of_a_segment() -> Vec<Case> {
 
 /// Every kind as a source and as a destination, of each pass.
 fn m10_kinds_with_a_rule() -> Vec<Case> {
-    let plan = with_columns(2, Plan { qs: vec![0], ..SMALL });
+    let plan = with_columns(2, Plan { qs: vec![0], ..small() });
     let mut cases = Vec::new();
     for kind in Kind::references() {
         let reference = match kind {
@@ -237,7 +246,7 @@ fn m10_kinds_with_a_rule() -> Vec<Case> {
 }
 
 fn m11_any_expression_number() -> Vec<Case> {
-    let plan = with_columns(1, SMALL);
+    let plan = with_columns(1, small());
     let list = ["counter 1", "first exp:500 = copy exp:65535'"];
     let ask = |name: &str, kind| Case::new(name, walk(&[cm(0)], &plan, kind, &list));
     vec![ask("m11-domain-n", FIX_N), ask("m11-domain-2ns", FIX_2NS)]
@@ -250,7 +259,7 @@ fn m12_the_query_walk() -> Vec<Case> {
             pu: vec![pu(0, 0, 0, 1)],
             intermediates: vec![intermediate(0, 5)],
             q_deg: 1,
-            ..SMALL
+            ..small()
         },
     );
     let ask = |name: &str, plan: &Plan, kind, lines: &[&str]| {
@@ -280,7 +289,7 @@ fn m12_the_query_walk() -> Vec<Case> {
 }
 
 fn m13_fixing_before_dimensions() -> Vec<Case> {
-    let plan = with_columns(2, SMALL);
+    let plan = with_columns(2, small());
     let list = ["first tmp:0 = copy tmp:9", "last tmp:1 = copy cm:2"];
     let ask = |name: &str, kind, lines: &[&str]| Case::new(name, walk(&two(), &plan, kind, lines));
     vec![
@@ -293,7 +302,7 @@ fn m13_fixing_before_dimensions() -> Vec<Case> {
 }
 
 fn m14_the_verifiers_code() -> Vec<Case> {
-    let plan = with_columns(2, SMALL);
+    let plan = with_columns(2, small());
     let list = [
         "first tmp:0 = copy x:0",
         "i tmp:1 = copy xDivXSubXi:0",
@@ -314,7 +323,7 @@ fn m14_the_verifiers_code() -> Vec<Case> {
             "m14-in-expressions",
             exp_dims(
                 &[leaf(Kind::X, 0), leaf(Kind::X_DIV_X_SUB_XI, 0), leaf(Kind::X_DIV_X_SUB_WXI, 0)],
-                &SMALL,
+                &small(),
             ),
         ),
     ]
@@ -325,7 +334,7 @@ fn m16_lookups_see_earlier_columns() -> Vec<Case> {
     let of = |name: &str, tree: Tree, lookups: [u16; 2]| {
         let trees = [cm(0), tree, add(cm(0), leaf(Kind::CHALLENGE, 0))];
         let pu = lookups.iter().map(|&e| pu(e, e, 0, 0)).collect();
-        Case::new(name, map(&trees, &with_columns(1, Plan { pu, ..SMALL })))
+        Case::new(name, map(&trees, &with_columns(1, Plan { pu, ..small() })))
     };
     vec![
         of("m16-a-later-lookups-column", cm(3), [1, 0]),
@@ -338,7 +347,7 @@ fn m16_lookups_see_earlier_columns() -> Vec<Case> {
 }
 
 fn m18_numerators_beyond() -> Vec<Case> {
-    let plan = with_columns(2, Plan { pe: vec![ratio(0, 9)], ..SMALL });
+    let plan = with_columns(2, Plan { pe: vec![ratio(0, 9)], ..small() });
     let beyond = |n| Plan { pe: vec![ratio(n, 0)], ..plan.clone() };
     vec![
         Case::new("m18-denominator-9-of-4", map(&four(), &plan)).note("the Rust gives it a column"),
@@ -353,7 +362,7 @@ fn four() -> Vec<Tree> {
 }
 
 fn m21_sources_beyond() -> Vec<Case> {
-    let plan = with_columns(2, SMALL);
+    let plan = with_columns(2, small());
     let ask = |name: &str, kind, line: &str| Case::new(name, walk(&two(), &plan, kind, &[line]));
     vec![
         ask("m21-ignored-by-dimensions", Walk::Dims, "first tmp:0 = copy cm:0 tmp:9 f:0"),
@@ -392,7 +401,7 @@ mod tests {
     /// M18: what the port refuses with 3, the original takes.
     #[test]
     fn the_original_takes_a_denominator_that_is_not_there() {
-        let good = with_columns(2, Plan { pe: vec![ratio(0, 3)], ..SMALL });
+        let good = with_columns(2, Plan { pe: vec![ratio(0, 3)], ..small() });
         let (pool, _) = Input::new(pool(&four()), &good).admitted().unwrap();
         let plan = Plan { pe: vec![ratio(0, 9)], ..good };
         let mapped = on_large_stack(|| ask_map(&pool, &plan).map_err(|panic| panic.0)).unwrap();
@@ -404,7 +413,7 @@ mod tests {
     /// M23: members of q_2ns and f_2ns are never filled in, and one is read for the other.
     #[test]
     fn members_of_the_last_sections_are_not_filled_in() {
-        let plan = with_columns(2, Plan { q_deg: 1, ..SMALL });
+        let plan = with_columns(2, Plan { q_deg: 1, ..small() });
         let (pool, plan) = Input::new(pool(&two()), &plan).admitted().unwrap();
         let mut after = run_map(&pool, &plan, Program::default());
         assert_eq!(after.end, Ok(()));
@@ -422,7 +431,7 @@ mod tests {
     /// M25: one function of this name gives a dimension, the other a degree.
     #[test]
     fn two_functions_have_one_name() {
-        let plan = with_columns(2, SMALL);
+        let plan = with_columns(2, small());
         let (pool, plan) = Input::new(pool(&two()), &plan).admitted().unwrap();
         let after = run_map(&pool, &plan, Program::default());
         let of = |e: usize| {

@@ -1,10 +1,11 @@
 //! Many random questions: how they are answered, and whether something else answers the same.
 
 use crate::input::Input;
-use crate::question::{ask, Answer, Question};
+use crate::question::{Answer, Question};
 use crate::random;
 use crate::random_lists;
 use crate::walks::Walk;
+use asked::question::Question as _;
 use judge::random::Random;
 use std::fmt;
 
@@ -27,7 +28,7 @@ pub fn questions_on(random: &mut Random, input: Input) -> Questions {
         Labelled::new("map", Question::Map(input.clone())),
         Labelled::new("sections", Question::Sections(random_lists::records(random))),
     ];
-    let is_accepted = !matches!(ask(&questions[0].question)?, Answer::Refused(_));
+    let is_accepted = matches!(questions[0].question.ask()?, Answer::Given(_));
     match input.admitted() {
         Ok((pool, plan)) if is_accepted => {
             questions.push(Labelled::new("exp_dims", Question::ExpDims(input.clone())));
@@ -90,9 +91,10 @@ mod tests {
     use super::*;
     use crate::lists::{Reference, Segment, Step};
     use crate::mapped::Mapped;
-    use crate::refusals::*;
+    use crate::question::Given;
     use crate::walks::Domain;
     use asked::checks;
+    use judge::refusals::*;
 
     const SEED: u64 = 3;
     const COUNT: u64 = 500;
@@ -100,7 +102,7 @@ mod tests {
     #[test]
     fn every_refusal_is_reached_and_most_plans_are_accepted() {
         let tally = tally(SEED, COUNT).unwrap();
-        for number in [MALFORMED, CHILDREN, NOT_THERE, CYCLE, FULL, COUNTS, NO_DIMENSION, BITS] {
+        for number in [MALFORMED, CHILD_COUNT, NOT_THERE, CYCLE, FULL, COUNTS, NO_DIMENSION, BITS] {
             assert!(tally.refused("map", number) > 0, "{}\n{}", number, tally);
         }
         assert!(tally.accepted("map") > COUNT / 2, "{}", tally);
@@ -118,7 +120,7 @@ mod tests {
     }
 
     fn original(question: &Question) -> Answer {
-        ask(question).expect("an answer")
+        question.ask().expect("an answer")
     }
 
     #[test]
@@ -144,7 +146,7 @@ mod tests {
         ];
         for change in changes {
             assert!(finds(|answer| {
-                if let Answer::Mapped(mapped) = answer {
+                if let Answer::Given(Given::Mapped(mapped)) = answer {
                     change(mapped);
                 }
             }));
@@ -154,7 +156,7 @@ mod tests {
     #[test]
     fn a_changed_position_is_found() {
         assert!(finds(|answer| {
-            if let Answer::Placed(placed) = answer {
+            if let Answer::Given(Given::Placed(placed)) = answer {
                 placed.positions.iter_mut().for_each(|position| *position += 1);
             }
         }));
@@ -175,7 +177,7 @@ mod tests {
         ];
         for change in changes {
             assert!(finds(|answer| {
-                if let Answer::Segment(segment) = answer {
+                if let Answer::Given(Given::Segment(segment)) = answer {
                     change(segment);
                 }
             }));
@@ -184,7 +186,7 @@ mod tests {
 
     #[test]
     fn a_refusal_in_place_of_another_is_found() {
-        for number in [MALFORMED, CHILDREN, CYCLE, FULL, NO_RULE, COUNTS, NO_DIMENSION, BITS] {
+        for number in [MALFORMED, CHILD_COUNT, CYCLE, FULL, NO_RULE, COUNTS, NO_DIMENSION, BITS] {
             assert!(finds(|answer| {
                 if *answer == Answer::Refused(number) {
                     *answer = Answer::Refused(NOT_THERE);

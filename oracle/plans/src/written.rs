@@ -5,13 +5,11 @@ use crate::lists::Segment;
 use crate::plan::{Intermediate, Plan, Pu, Ratio};
 use crate::question::Question;
 use crate::walks::Walk;
-use judge::case::Tree;
-use judge::pool::Flags;
+use judge::case::{plain_pool, Tree};
 
 /// A pool of these expressions.
 pub fn pool(trees: &[Tree]) -> Draft {
-    let expressions: Vec<_> = trees.iter().map(|tree| (tree.clone(), Flags::NONE)).collect();
-    Draft::of(&judge::case::Case::new("", &expressions, &[]).script.pool)
+    Draft::of(&plain_pool(trees))
 }
 
 pub fn pu(f: u16, t: u16, num: u16, den: u16) -> Pu {
@@ -27,19 +25,9 @@ pub fn intermediate(expression: u16, cm: u16) -> Intermediate {
 }
 
 /// 8 rows, extended to 16.
-pub const SMALL: Plan = Plan {
-    n_bits: 3,
-    n_bits_ext: 4,
-    n_cm: [0; 4],
-    q_deg: 0,
-    c_exp: 0,
-    pu: Vec::new(),
-    pe: Vec::new(),
-    ci: Vec::new(),
-    intermediates: Vec::new(),
-    qs: Vec::new(),
-    q2exp: Vec::new(),
-};
+pub fn small() -> Plan {
+    Plan { n_bits: 3, n_bits_ext: 4, ..Plan::default() }
+}
 
 /// The plan with so many columns of cm1, and as many of the others as its entries need.
 pub fn with_columns(n_cm1: u16, plan: Plan) -> Plan {

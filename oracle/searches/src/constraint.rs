@@ -1,7 +1,6 @@
 //! `generate_constraint_polynomial` as a whole, asked of the original.
 
 use crate::contexts;
-use crate::refusals::{COUNTS, DOUBLE_PRIME, FULL};
 use crate::search::{ask_search, caught, Found, Search};
 use asked::question::Refused;
 use asked::text::listed;
@@ -10,6 +9,7 @@ use judge::hex;
 use judge::kinds::Kind;
 use judge::literal::Literal;
 use judge::pool::{Node, MAX_EXPRESSIONS, MAX_NODES};
+use judge::refusals::{COUNTS, DOUBLE_PRIME, FULL};
 use judge::script::Command;
 use original::constant::set_vc;
 use original::starkinfo::{Program, StarkInfo};

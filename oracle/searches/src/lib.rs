@@ -1,16 +1,14 @@
 //! Searches: the original's degree search and its constraint polynomial, asked and kept as vectors.
 //!
-//! `question` is what is asked and answered; `search` and `constraint` ask the original, `refusals`
-//! are document 01's numbers, `contexts` what is done to a context beforehand. `text` and `vectors`
-//! write and read them; `surprises`, `edges` and `random` think up questions, `stored` keeps them,
-//! `tally` counts and compares.
+//! `question` is what is asked and answered; `search` and `constraint` ask the original, `contexts` is
+//! what is done to a context beforehand. `text` and `vectors` write and read them; `surprises`, `edges`
+//! and `random` think up questions, `stored` keeps them, `tally` counts and compares.
 
 pub mod constraint;
 pub mod contexts;
 pub mod edges;
 pub mod question;
 pub mod random;
-pub mod refusals;
 pub mod search;
 pub mod stored;
 pub mod surprises;

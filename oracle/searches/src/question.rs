@@ -14,12 +14,14 @@ pub enum Question {
     Constraint(Constraint),
 }
 
+/// What is given to a question that is not refused.
 #[derive(Clone, Debug, PartialEq, Eq)]
-pub enum Answer {
-    Refused(u8),
+pub enum Given {
     Found(Found),
     Made(Box<Made>),
 }
+
+pub type Answer = asked::question::Answer<Given>;
 
 impl Question {
     pub fn search(&self) -> &Search {
@@ -47,55 +49,36 @@ impl Question {
     }
 }
 
-/// The answer of document 01: the original's, or a refusal. Fails where the original did what the
-/// document has no word for. Call it on a large stack.
-pub fn ask(question: &Question) -> Result<Answer, String> {
-    answer(question).or_else(|refused| refused.number().map(Answer::Refused))
-}
-
-fn answer(question: &Question) -> Result<Answer, Refused> {
-    match question {
-        Question::Search(search) => ask_search(search).map(Answer::Found),
-        Question::Constraint(constraint) => {
-            ask_constraint(constraint).map(Box::new).map(Answer::Made)
-        }
-    }
-}
-
 impl asked::question::Question for Question {
     type Lines = Said;
-    type Answer = Answer;
+    type Given = Given;
 
-    fn ask(&self) -> Result<Answer, String> {
-        ask(self)
+    fn given(&self) -> Result<Given, Refused> {
+        match self {
+            Question::Search(search) => ask_search(search).map(Given::Found),
+            Question::Constraint(constraint) => {
+                ask_constraint(constraint).map(Box::new).map(Given::Made)
+            }
+        }
     }
 }
 
-impl asked::question::Answer for Answer {
+impl asked::question::Given for Given {
     type Counts = Counts;
-
-    fn refusal(&self) -> Option<u8> {
-        match self {
-            Answer::Refused(number) => Some(*number),
-            _ => None,
-        }
-    }
 
     fn count_in(&self, counts: &mut Counts) {
         match self {
-            Answer::Refused(_) => {}
-            Answer::Found(found) => counts.count(found),
-            Answer::Made(made) => counts.count(&made.found),
+            Given::Found(found) => counts.count(found),
+            Given::Made(made) => counts.count(&made.found),
         }
     }
 }
 
-impl fmt::Display for Answer {
+impl fmt::Display for Given {
     fn fmt(&self, f: &mut fmt::Formatter<'_>) -> fmt::Result {
         match self {
-            Answer::Refused(number) => writeln!(f, "refused {}", number),
-            Answer::Found(found) => found.fmt(f),
-            Answer::Made(made) => made.fmt(f),
+            Given::Found(found) => found.fmt(f),
+            Given::Made(made) => made.fmt(f),
         }
     }
 }

@@ -3,7 +3,7 @@
 use crate::constraint::Constraint;
 use crate::contexts;
 use crate::search::{visits_needed, Search};
-use judge::case::{request, Case, Tree, BUILD};
+use judge::case::{pool, request, Tree, BUILD};
 use judge::kinds::Kind;
 use judge::literal::Literal;
 use judge::pool::Flags;
@@ -87,7 +87,7 @@ fn unlimited(random: &mut Random, style: Style) -> Search {
     let mut ordered = trees;
     ordered.sort_by_key(|&(number, _)| number);
     let flagged: Vec<_> = ordered.into_iter().map(|(_, tree)| (tree, flags(random))).collect();
-    let pool = Case::new("", &flagged, &[]).script.pool;
+    let pool = pool(&flagged);
     let (n_bits, n_bits_ext) = bits(random);
     Search { pool, identities, n_bits, n_bits_ext, limit: ENOUGH }
 }

@@ -1,9 +1,10 @@
 //! The degree search, asked of the original twice: its own whole run, and the degree rule with its
 //! visits counted, put into the original's loop here. The two must not contradict each other.
 
-use crate::refusals::{BITS, KIND, NOT_THERE, NO_IDENTITY, NO_QUOTIENT, NO_SET, VISITS};
+use asked::bits;
 use asked::question::Refused;
 use judge::pool::Pool;
+use judge::refusals::{BITS, NOT_THERE, NO_IDENTITY, NO_QUOTIENT, NO_SET, SEARCH_KIND, VISITS};
 use judge::run::{pil, text_of};
 use original::counted;
 use original::expressionops::ExpressionOps as E;
@@ -14,9 +15,6 @@ use original::visits;
 use std::collections::HashMap;
 use std::fmt::Debug;
 use std::panic::{self, AssertUnwindSafe};
-
-const MAX_BITS: u8 = 24;
-const MAX_MORE_BITS: u8 = 4;
 
 /// The original's word for a kind that the degree rule or the full degree has no rule for.
 const NO_KIND: &str = "Exp op not defined: ";
@@ -67,8 +65,7 @@ impl Search {
         if self.identities.is_empty() {
             return refused(NO_IDENTITY);
         }
-        let most = self.n_bits.saturating_add(MAX_MORE_BITS);
-        if self.n_bits > MAX_BITS || !(self.n_bits..=most).contains(&self.n_bits_ext) {
+        if !bits::in_range(self.n_bits, self.n_bits_ext) {
             return refused(BITS);
         }
         let expressions = self.pool.expressions().len();
@@ -143,7 +140,7 @@ pub fn ask_search(search: &Search) -> Result<Found, Refused> {
         Err(text) if text == visits::PASSED => Err(Refused::With(VISITS)),
         Err(text) if text.starts_with(NO_KIND) => {
             agree(whole(search), |end, _| end == &Err(text.clone()))?;
-            Err(Refused::With(KIND))
+            Err(Refused::With(SEARCH_KIND))
         }
         Err(text) => Err(Refused::Not(format!("the original panics: {}", text))),
         Ok(None) => {
@@ -216,16 +213,13 @@ fn agree(
 #[cfg(test)]
 mod tests {
     use super::*;
-    use judge::case::{add, cm, exp, leaf, mul, number, Case, Tree};
+    use judge::case::{add, cm, exp, leaf, mul, number, plain_pool, Tree};
     use judge::kinds::Kind;
-    use judge::pool::Flags;
     use judge::run::on_large_stack;
 
     fn search(trees: &[Tree], identities: &[u16], more_bits: u8) -> Search {
-        let expressions: Vec<_> = trees.iter().map(|t| (t.clone(), Flags::NONE)).collect();
-        let pool = Case::new("", &expressions, &[]).script.pool;
-        let (n_bits, n_bits_ext, limit) = (3, 3 + more_bits, u64::MAX);
-        Search { pool, identities: identities.to_vec(), n_bits, n_bits_ext, limit }
+        let (pool, identities) = (plain_pool(trees), identities.to_vec());
+        Search { pool, identities, n_bits: 3, n_bits_ext: 3 + more_bits, limit: u64::MAX }
     }
 
     fn ask(search: &Search) -> Result<Found, Refused> {
@@ -262,7 +256,7 @@ mod tests {
         assert_eq!(refused(&[0], 3, 0), VISITS);
         // exp leaf, add, q.
         assert_eq!(refused(&[0], 3, 2), VISITS);
-        assert_eq!(refused(&[0], 3, 3), KIND);
+        assert_eq!(refused(&[0], 3, 3), SEARCH_KIND);
     }
 
     #[test]

@@ -6,10 +6,11 @@ use crate::question::Question;
 use crate::search::Search;
 use crate::vectors::Case;
 use judge::case::{
-    add, addc, cm, constant, exp, leaf, mul, mulc, neg, number, plain, primed, sub, Tree, BUILD,
+    add, addc, cm, constant, exp, leaf, mul, mulc, neg, number, plain, plain_pool, pool, primed,
+    sub, Tree, BUILD,
 };
 use judge::kinds::Kind;
-use judge::pool::Flags;
+use judge::pool::{Flags, Pool};
 use std::slice::from_ref;
 
 /// Limits that no question here passes, unless it says another.
@@ -17,12 +18,14 @@ pub const ENOUGH: u64 = 1_000_000;
 
 /// A search over these expressions, with so many bits more.
 pub fn search(trees: &[Tree], identities: &[u16], more_bits: u8) -> Search {
-    let expressions: Vec<_> = trees.iter().map(|tree| (tree.clone(), Flags::NONE)).collect();
-    flagged(&expressions, identities, more_bits)
+    search_of(plain_pool(trees), identities, more_bits)
 }
 
 pub fn flagged(expressions: &[(Tree, Flags)], identities: &[u16], more_bits: u8) -> Search {
-    let pool = judge::case::Case::new("", expressions, &[]).script.pool;
+    search_of(pool(expressions), identities, more_bits)
+}
+
+fn search_of(pool: Pool, identities: &[u16], more_bits: u8) -> Search {
     let (n_bits, n_bits_ext) = (3, 3 + more_bits);
     Search { pool, identities: identities.to_vec(), n_bits, n_bits_ext, limit: ENOUGH }
 }

@@ -59,9 +59,10 @@ impl fmt::Display for Counts {
 #[cfg(test)]
 mod tests {
     use super::*;
-    use crate::question::ask;
-    use crate::refusals::*;
+    use crate::question::Given;
     use asked::checks;
+    use asked::question::Question as _;
+    use judge::refusals::*;
 
     const SEED: u64 = 3;
     const COUNT: u64 = 600;
@@ -69,7 +70,7 @@ mod tests {
     #[test]
     fn every_refusal_is_reached_and_sets_have_several_members() {
         let tally = tally(SEED, COUNT).unwrap();
-        for number in [NOT_THERE, KIND, NO_SET, NO_QUOTIENT, VISITS, BITS, NO_IDENTITY] {
+        for number in [NOT_THERE, SEARCH_KIND, NO_SET, NO_QUOTIENT, VISITS, BITS, NO_IDENTITY] {
             assert!(tally.refused("search", number) > 0, "{}\n{}", number, tally);
         }
         for number in [DOUBLE_PRIME, COUNTS] {
@@ -81,7 +82,7 @@ mod tests {
     }
 
     fn original(question: &Question) -> Said {
-        ask(question).map(Some)
+        question.ask().map(Some)
     }
 
     #[test]
@@ -104,7 +105,7 @@ mod tests {
         ];
         for change in changes {
             assert!(finds(|answer| {
-                if let Answer::Found(found) = answer {
+                if let Answer::Given(Given::Found(found)) = answer {
                     change(found);
                 }
             }));
@@ -114,7 +115,7 @@ mod tests {
     #[test]
     fn a_refusal_in_place_of_another_is_found() {
         for number in
-            [NOT_THERE, KIND, NO_SET, NO_QUOTIENT, BITS, NO_IDENTITY, DOUBLE_PRIME, COUNTS]
+            [NOT_THERE, SEARCH_KIND, NO_SET, NO_QUOTIENT, BITS, NO_IDENTITY, DOUBLE_PRIME, COUNTS]
         {
             assert!(finds(|answer| {
                 if *answer == Answer::Refused(number) {
@@ -134,7 +135,8 @@ mod tests {
         assert!(compare(SEED, COUNT, questions, wrong).unwrap().1.is_some());
         assert!(finds(|answer| {
             if *answer == Answer::Refused(NO_SET) {
-                *answer = Answer::Found(Found { set: Vec::new(), q: 0, visits: 14 });
+                let found = Found { set: Vec::new(), q: 0, visits: 14 };
+                *answer = Answer::Given(Given::Found(found));
             }
         }));
     }

@@ -1,6 +1,6 @@
 //! The constraint polynomial, in pieces as a host calls them one after the other, and in one call, compared with the original's.
 
-use crate::record::{encoded, framed, pool_frames, said};
+use crate::record::{encoded, framed, pool_frames, said, UNWRITTEN};
 use crate::searched;
 use enonkasse_sys::{
     self as library, CONSTRAINT_NUMBERS, CONSTRAINT_TOTALS, CONTEXT_SIZE, LIST_ROOM,
@@ -11,12 +11,9 @@ use judge::hex;
 use judge::pool::Pool;
 use judge::script::{Command, Request, Script};
 use searches::constraint::{Built, Constraint, Made};
-use searches::question::{Answer, Question};
+use searches::question::{Answer, Given, Question};
 use searches::search::Found;
 use searches::tally::{Labelled, Questions, Said, Tally};
-
-/// What stands where nothing was written.
-const UNWRITTEN: u8 = 0xa5;
 
 /// Why a piece did not come to its end: its number, or what is wrong with what it left.
 enum Stop {
@@ -299,7 +296,7 @@ fn say(question: &Question) -> Said {
 
 fn told(made: Result<Made, Stop>) -> Said {
     match made {
-        Ok(made) => Ok(Some(Answer::Made(Box::new(made)))),
+        Ok(made) => Ok(Some(Answer::Given(Given::Made(Box::new(made))))),
         Err(Stop::Refused(number)) => Ok(Some(Answer::Refused(number))),
         Err(Stop::Wrong(text)) => Err(text),
     }

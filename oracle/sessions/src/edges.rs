@@ -1,14 +1,9 @@
 //! The evaluator on each side of each edge: its numbers, its values, and that a refusal changes nothing lent.
 
+use crate::record::{framed_hex, UNWRITTEN};
 use enonkasse_sys::{evaluate, CELL_SIZE, STEP_SIZE, VALUE_PARTS};
 use judge::kinds::{Kind, Step};
-
-const MALFORMED: u8 = 1;
-const CHILD_COUNT: u8 = 2;
-const NOT_THERE: u8 = 3;
-const CYCLE: u8 = 4;
-const FULL: u8 = 9;
-const NO_RULE: u8 = 10;
+use judge::refusals::{CHILD_COUNT, CYCLE, FULL, MALFORMED, NOT_THERE, NO_RULE};
 
 const MODULUS: u32 = 65_537;
 
@@ -24,17 +19,6 @@ const POOL: [&str; 6] = [
     "02000000",
     "02000300",
 ];
-
-fn framed(lines: &[&str]) -> Vec<u8> {
-    let mut bytes = Vec::new();
-    for line in lines {
-        let digits = (0..line.len()).step_by(2).map(|k| &line[k..k + 2]);
-        let frame: Vec<u8> = digits.map(|pair| u8::from_str_radix(pair, 16).unwrap()).collect();
-        bytes.extend((frame.len() as u16).to_be_bytes());
-        bytes.extend(frame);
-    }
-    bytes
-}
 
 #[derive(Clone, Copy)]
 struct Reference {
@@ -109,7 +93,7 @@ impl Call {
     fn new(steps: &[Vec<u8>]) -> Call {
         let room = CELL_SIZE * steps.len();
         Call {
-            frames: framed(&POOL),
+            frames: framed_hex(&POOL),
             list: steps.concat(),
             modulus: MODULUS,
             values: given(),
@@ -119,12 +103,12 @@ impl Call {
 
     /// The values of the cells in their order, or the refusal's number.
     fn answer(&self) -> Result<Vec<u64>, u8> {
-        let mut out = vec![0xa5; self.room];
+        let mut out = vec![UNWRITTEN; self.room];
         let mut cells = [usize::MAX];
         let (frames, list, values) = (&self.frames, &self.list, &self.values);
         let number = evaluate(frames, list, self.modulus, values, &mut out, &mut cells);
         if number != 0 {
-            let kept = out.iter().all(|&byte| byte == 0xa5) && cells == [usize::MAX];
+            let kept = out.iter().all(|&byte| byte == UNWRITTEN) && cells == [usize::MAX];
             assert!(kept, "a refusal with {} changed what was lent", number);
             return Err(number);
         }
@@ -387,7 +371,7 @@ fn refusals_come_in_their_order() {
         ("a root that is not there", &[leaf, "02000100"][..], NOT_THERE),
         ("a leaf on itself", &["011200000000", "02000000"][..], CYCLE),
     ] {
-        let frames = framed(lines);
+        let frames = framed_hex(lines);
         let with = |list: &[u8]| {
             Call { frames: frames.clone(), list: list.to_vec(), ..Call::new(&[]) }.answer()
         };
@@ -396,7 +380,7 @@ fn refusals_come_in_their_order() {
         assert_eq!(with(&bad_list), Err(MALFORMED), "{}", label);
     }
     let nodes = vec![leaf; 4097];
-    let limit = Call { frames: framed(&nodes), ..Call::new(&[bad_list]) };
+    let limit = Call { frames: framed_hex(&nodes), ..Call::new(&[bad_list]) };
     assert_eq!(limit.answer(), Err(FULL));
     let unruled_in_no_room = Call { room: 0, ..Call::new(&[unruled]) };
     assert_eq!(unruled_in_no_room.answer(), Err(NO_RULE));

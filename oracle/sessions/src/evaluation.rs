@@ -1,9 +1,11 @@
 //! A list evaluated by the library, and the pool's trees evaluated here, from the same values.
 
+use crate::record::UNWRITTEN;
 use enonkasse_sys::{self as library, CELL_SIZE, ROWS, STEP_SIZE, VALUE_PARTS};
 use judge::kinds::Kind;
 use judge::pool::{Node, Pool};
 use judge::random::Random;
+use judge::refusals::FULL;
 use judge::script::Request;
 use std::collections::{HashMap, HashSet};
 
@@ -20,8 +22,6 @@ const X_KINDS: [Kind; 3] = [Kind::X_DIV_X_SUB_XI, Kind::X_DIV_X_SUB_WXI, Kind::X
 
 /// Bytes of room behind the last cell, which must not change.
 const SPARE: usize = 5;
-const UNWRITTEN: u8 = 0xa5;
-const FULL: u8 = 9;
 
 /// What was compared.
 #[derive(Clone, Debug, Default)]

@@ -2,6 +2,7 @@
 
 use crate::guarded::Guarded;
 use enonkasse_sys as library;
+use enonkasse_sys::records::{self, map_section, PolType};
 
 #[derive(Clone, Copy, Debug, PartialEq, Eq, PartialOrd, Ord)]
 pub enum Export {
@@ -20,28 +21,30 @@ pub enum Export {
     Close,
     ConstraintPool,
     Constraint,
+    MapSection,
 }
 
-/// What is lent: numbers, byte slices, slices and arrays of words, and an array of counts, each in the
-/// order of the function's parameters.
-#[derive(Clone, Debug, PartialEq, Eq)]
+/// What is lent: numbers, byte slices, slices and arrays of words, an array of counts, records and columns of 16-bit
+/// numbers, each in the order of the function's parameters.
+#[derive(Clone, Debug, Default, PartialEq, Eq)]
 pub struct Lent {
     pub numbers: Vec<u64>,
     pub bytes: Vec<Vec<u8>>,
     pub words: Vec<Vec<u64>>,
     pub counts: Vec<usize>,
+    pub records: Vec<PolType>,
+    pub columns: Vec<Vec<u16>>,
 }
 
 impl Lent {
     /// These byte slices, and nothing else.
     pub fn of_bytes(parts: &[&[u8]]) -> Lent {
-        let bytes = parts.iter().map(|part| part.to_vec()).collect();
-        Lent { numbers: Vec::new(), bytes, words: Vec::new(), counts: Vec::new() }
+        Lent { bytes: parts.iter().map(|part| part.to_vec()).collect(), ..Lent::default() }
     }
 }
 
 impl Export {
-    pub const ALL: [Export; 15] = [
+    pub const ALL: [Export; 16] = [
         Export::Fresh,
         Export::Serve,
         Export::Build,
@@ -57,11 +60,18 @@ impl Export {
         Export::Close,
         Export::ConstraintPool,
         Export::Constraint,
+        Export::MapSection,
     ];
 
     /// Its name in the library, without what all begin with.
     pub fn name(self) -> &'static str {
-        library::EXPORTS[self as usize].0.trim_start_matches("enonkasse_")
+        let (name, _) = exports().nth(self as usize).expect("a function of the library");
+        name.trim_start_matches("enonkasse_")
+    }
+
+    /// Whether the first thing that it is lent are frames.
+    pub fn reads_frames(self) -> bool {
+        !matches!(self, Export::Fresh | Export::Mark | Export::Close | Export::MapSection)
     }
 
     /// The byte slices that it may write.
@@ -73,7 +83,7 @@ impl Export {
             Export::Run => &[1],
             Export::Evaluate | Export::Map | Export::DimensionFirst => &[2],
             Export::Fix | Export::Query | Export::Dimension => &[2, 3, 4],
-            Export::Search => &[],
+            Export::Search | Export::MapSection => &[],
             Export::Mark => &[0],
             Export::Close => &[0, 1],
             Export::ConstraintPool => &[1],
@@ -114,7 +124,18 @@ impl Export {
         let kept = |place: &usize| after.bytes[*place] == before.bytes[*place];
         (0..before.bytes.len()).filter(|place| !self.written().contains(place)).all(|p| kept(&p))
             && after.words[..slices] == before.words[..slices]
+            && after.records.iter().map(unplaced).eq(before.records.iter().map(unplaced))
     }
+}
+
+/// A record but for its position, which alone may be written.
+fn unplaced(record: &PolType) -> PolType {
+    PolType { section_pos: 0, ..*record }
+}
+
+/// Every function of the library with its parameters.
+fn exports() -> impl Iterator<Item = &'static (&'static str, &'static str)> {
+    library::EXPORTS.iter().chain(records::EXPORTS)
 }
 
 /// What is lent, each part between guards.
@@ -122,6 +143,8 @@ struct Between {
     bytes: Vec<Guarded<u8>>,
     words: Vec<Guarded<u64>>,
     counts: Guarded<usize>,
+    records: Guarded<PolType>,
+    columns: Vec<Guarded<u16>>,
 }
 
 impl Between {
@@ -130,6 +153,8 @@ impl Between {
             bytes: lent.bytes.iter().map(|part| Guarded::new(part)).collect(),
             words: lent.words.iter().map(|part| Guarded::new(part)).collect(),
             counts: Guarded::new(&lent.counts),
+            records: Guarded::new(&lent.records),
+            columns: lent.columns.iter().map(|part| Guarded::new(part)).collect(),
         }
     }
 
@@ -137,6 +162,8 @@ impl Between {
         self.bytes.iter().all(Guarded::guards_stand)
             && self.words.iter().all(Guarded::guards_stand)
             && self.counts.guards_stand()
+            && self.records.guards_stand()
+            && self.columns.iter().all(Guarded::guards_stand)
     }
 
     /// What stands now, with the numbers of what was lent.
@@ -146,15 +173,19 @@ impl Between {
             bytes: self.bytes.iter().map(|part| part.items().to_vec()).collect(),
             words: self.words.iter().map(|part| part.items().to_vec()).collect(),
             counts: self.counts.items().to_vec(),
+            records: self.records.items().to_vec(),
+            columns: self.columns.iter().map(|part| part.items().to_vec()).collect(),
         }
     }
 
     fn call(&mut self, export: Export, numbers: &[u64]) -> u8 {
-        let Between { bytes, words, counts } = self;
+        let Between { bytes, words, counts, records, columns } = self;
         let mut slices = bytes.iter_mut().map(Guarded::lent);
         let mut next = || slices.next().expect("as many slices as it takes");
         let mut words = words.iter_mut();
         let mut word = || words.next().expect("as many words as it takes");
+        let mut columns = columns.iter_mut().map(Guarded::lent);
+        let mut column = || columns.next().expect("as many columns as it takes");
         match export {
             Export::Fresh => library::fresh(next()),
             Export::Serve => {
@@ -226,6 +257,9 @@ impl Between {
                 word().lent_array(),
                 counts.lent_array(),
             ),
+            Export::MapSection => {
+                map_section(records.lent(), column(), column(), column(), column())
+            }
         }
     }
 }
@@ -236,7 +270,7 @@ mod tests {
 
     #[test]
     fn every_function_of_the_library_is_called_by_its_name() {
-        assert_eq!(Export::ALL.len(), library::EXPORTS.len());
+        assert_eq!(Export::ALL.len(), exports().count());
         let names: Vec<&str> = Export::ALL.iter().map(|export| export.name()).collect();
         for (export, name) in Export::ALL.iter().zip(&names) {
             assert_eq!(name.replace('_', ""), format!("{:?}", export).to_lowercase());

@@ -4,9 +4,11 @@
 use crate::export::{Export, Lent};
 use crate::good::Good;
 use asked::rows::Rows;
+use enonkasse_sys::records::PolType;
 use enonkasse_sys::{CONTEXT_SIZE, STEP_SIZE};
 use judge::random::Random;
 use judge::run::on_large_stack;
+use std::slice;
 
 #[derive(Clone, Copy, Debug)]
 enum Input {
@@ -58,50 +60,99 @@ fn other(random: &mut Random, value: u64, most: u64) -> u64 {
     }
 }
 
-/// The slices that have an item.
-fn filled(slices: &[Vec<u8>]) -> Vec<usize> {
-    (0..slices.len()).filter(|&place| !slices[place].is_empty()).collect()
+/// What is lent in a slice, of whatever items.
+trait Slice {
+    fn is_filled(&self) -> bool;
+
+    fn shorten(&mut self);
+
+    /// Changes one of its items.
+    fn change(&mut self, random: &mut Random);
+}
+
+impl<T: Part> Slice for Vec<T> {
+    fn is_filled(&self) -> bool {
+        !self.is_empty()
+    }
+
+    fn shorten(&mut self) {
+        self.pop();
+    }
+
+    fn change(&mut self, random: &mut Random) {
+        let at = random.below(self.len());
+        self[at] = self[at].another(random);
+    }
+}
+
+/// An item of a slice, of which there are others.
+trait Part: Copy {
+    fn another(self, random: &mut Random) -> Self;
+}
+
+macro_rules! numbers {
+    ($($number:ty),*) => {
+        $(impl Part for $number {
+            fn another(self, random: &mut Random) -> $number {
+                other(random, self.into(), <$number>::MAX.into()) as $number
+            }
+        })*
+    };
+}
+
+numbers!(u8, u16, u64);
+
+impl Part for PolType {
+    fn another(mut self, random: &mut Random) -> PolType {
+        match random.below(3) {
+            0 => self.section = self.section.another(random),
+            1 => self.dim = self.dim.another(random),
+            _ => self.section_pos = self.section_pos.another(random),
+        }
+        self
+    }
+}
+
+/// The slices that have an item, of the words only so many; and the numbers.
+fn filled(lent: &mut Lent, words: usize) -> (Vec<&mut dyn Slice>, &mut [u64]) {
+    let Lent { numbers, bytes, words: all_words, records, columns, .. } = lent;
+    let mut slices: Vec<&mut dyn Slice> = Vec::new();
+    slices.extend(bytes.iter_mut().map(|slice| slice as &mut dyn Slice));
+    slices.extend(all_words.iter_mut().take(words).map(|slice| slice as &mut dyn Slice));
+    slices.extend(columns.iter_mut().map(|slice| slice as &mut dyn Slice));
+    slices.push(records);
+    slices.retain(|slice| slice.is_filled());
+    (slices, numbers)
 }
 
 /// One of all that is lent; long slices are as likely as short ones.
 fn change(lent: &mut Lent, random: &mut Random) {
-    let filled = filled(&lent.bytes);
-    let (bytes, numbers) = (filled.len(), lent.numbers.len());
-    let words: usize = lent.words.iter().map(Vec::len).sum();
-    let place = random.below(bytes + numbers + usize::from(words > 0));
-    if place < bytes {
-        let slice = &mut lent.bytes[filled[place]];
-        let at = random.below(slice.len());
-        slice[at] = other(random, slice[at].into(), u8::MAX.into()) as u8;
-    } else if place < bytes + numbers {
-        let number = &mut lent.numbers[place - bytes];
-        *number = other(random, *number, u64::MAX);
+    let words = lent.words.len();
+    let (mut slices, numbers) = filled(lent, words);
+    let place = random.below(slices.len() + numbers.len());
+    if place < slices.len() {
+        slices[place].change(random);
     } else {
-        let at = random.below(words);
-        let word = lent.words.iter_mut().flatten().nth(at).expect("a word");
-        *word = other(random, *word, u64::MAX);
+        let number = &mut numbers[place - slices.len()];
+        *number = number.another(random);
     }
 }
 
 /// One of the slices that have an item.
 fn shorten(export: Export, lent: &mut Lent, random: &mut Random) {
-    let filled = filled(&lent.bytes);
-    let words = lent.words.iter_mut().take(export.word_slices());
-    let mut words: Vec<&mut Vec<u64>> = words.filter(|slice| !slice.is_empty()).collect();
-    let place = random.below(filled.len() + words.len());
-    if place < filled.len() {
-        lent.bytes[filled[place]].pop();
-    } else {
-        words[place - filled.len()].pop();
-    }
+    let (mut slices, _) = filled(lent, export.word_slices());
+    let place = random.below(slices.len());
+    slices[place].shorten();
 }
 
 fn mix(lent: &mut Lent, other: Lent, random: &mut Random) {
-    let Lent { numbers, bytes, words, counts } = other;
+    let Lent { numbers, bytes, words, counts, records, columns } = other;
     swap_some(&mut lent.numbers, numbers, random);
     swap_some(&mut lent.bytes, bytes, random);
     swap_some(&mut lent.words, words, random);
     swap_some(&mut lent.counts, counts, random);
+    swap_some(&mut lent.columns, columns, random);
+    swap_some(slice::from_mut(&mut lent.records), vec![records], random);
 }
 
 fn swap_some<T>(parts: &mut [T], others: Vec<T>, random: &mut Random) {
@@ -136,9 +187,33 @@ fn random_frames(random: &mut Random) -> Vec<u8> {
     bytes
 }
 
+/// Numbers of 16 bits; small ones are those that mean something.
+fn random_number(random: &mut Random) -> u16 {
+    let most = random.pick(&[u16::MAX, 3, 0xf]);
+    random.draw() as u16 & most
+}
+
+/// As many records as there were or fewer; columns as long as these, or not.
+fn randomise_records(lent: &mut Lent, random: &mut Random) {
+    let count = random.below(lent.records.len() + 1);
+    let record = |_| PolType {
+        section: random_number(random),
+        dim: random_number(random),
+        section_pos: random_number(random),
+    };
+    lent.records = (0..count).map(record).collect();
+    let widths = lent.columns.len().saturating_sub(1);
+    for (place, column) in lent.columns.iter_mut().enumerate() {
+        let size = if place == widths { column.len() } else { count };
+        let size = if random.one_of(8) { random.below(size + 2) } else { size };
+        *column = (0..size).map(|_| random_number(random)).collect();
+    }
+}
+
 fn randomise(export: Export, lent: &mut Lent, random: &mut Random) {
+    randomise_records(lent, random);
     lent.bytes.iter_mut().for_each(|slice| *slice = random_bytes(random));
-    if random.chance(50) && export != Export::Fresh {
+    if random.chance(50) && export.reads_frames() {
         lent.bytes[0] = random_frames(random);
     }
     let numbers = lent.numbers.iter_mut().chain(lent.words.iter_mut().flatten());

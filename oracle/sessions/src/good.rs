@@ -5,6 +5,7 @@ use crate::export::{Export, Lent};
 use crate::planned;
 use crate::record::{framed, pool_frames};
 use crate::searched;
+use crate::sectioned;
 use enonkasse_sys::{
     self as library, CELL_SIZE, CONSTRAINT_NUMBERS, CONSTRAINT_TOTALS, CONTEXT_SIZE, MAP_ROOM,
     SET_WORDS, STEP_COUNT_AT, STEP_SIZE,
@@ -45,6 +46,7 @@ pub struct Good {
     map_room: Vec<u8>,
     domain: u8,
     dim_x: u16,
+    sections: sectioned::Lent,
 }
 
 /// A pool with a context that has served some of its requests.
@@ -69,6 +71,7 @@ impl Good {
             search: search(seed, index)?,
             domain: random.below(2) as u8,
             dim_x: random.pick(&[1, 3]),
+            sections: sectioned::Lent::random(seed, index)?,
         })
     }
 
@@ -99,6 +102,7 @@ impl Good {
             Export::Close => self.session.close(),
             Export::ConstraintPool => self.lent_to_constraint_pool(),
             Export::Constraint => self.lent_to_constraint(),
+            Export::MapSection => self.lent_to_map_section(),
         }
     }
 
@@ -114,6 +118,11 @@ impl Good {
 }
 
 impl Good {
+    fn lent_to_map_section(&self) -> Lent {
+        let sectioned::Lent { records, columns, widths } = self.sections.clone();
+        Lent { records, columns: columns.into_iter().chain([widths]).collect(), ..Lent::default() }
+    }
+
     /// With what the search chose, if it did.
     fn lent_to_constraint_pool(&self) -> Lent {
         let Search { pool, identities, n_bits, n_bits_ext, limit } = &self.search;
@@ -163,7 +172,7 @@ impl Good {
 impl Session {
     /// Half of the requests that come first are served; in one session of four they are built, too.
     fn of(random: &mut Random, seed: u64, index: u64) -> Session {
-        let script = random::case(seed, index, None).script;
+        let script = random::case(seed, index, None).question;
         let requests: Vec<Request> = script.requests().copied().collect();
         let mut session = Session {
             requests: Vec::new(),

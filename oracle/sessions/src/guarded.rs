@@ -1,11 +1,38 @@
 //! A lent buffer with guards on both sides.
 
+use enonkasse_sys::records::PolType;
+
 /// Items of a guard.
 const GUARD: usize = 64;
 
+/// What is lent in slices.
+pub trait Item: Copy + PartialEq {
+    /// A guard's item that is made of a byte.
+    fn of_byte(byte: u8) -> Self;
+}
+
+macro_rules! numbers {
+    ($($number:ty),*) => {
+        $(impl Item for $number {
+            fn of_byte(byte: u8) -> $number {
+                byte.into()
+            }
+        })*
+    };
+}
+
+numbers!(u8, u16, u64, usize);
+
+impl Item for PolType {
+    fn of_byte(byte: u8) -> PolType {
+        let number = byte.into();
+        PolType { section: number, dim: number, section_pos: number }
+    }
+}
+
 /// A guard's item at a place: any that are not all alike.
-fn guard<T: From<u8>>(place: usize) -> T {
-    T::from((place as u8).wrapping_mul(0x35) ^ 0xa5)
+fn guard<T: Item>(place: usize) -> T {
+    T::of_byte((place as u8).wrapping_mul(0x35) ^ 0xa5)
 }
 
 /// Items between two guards.
@@ -14,7 +41,7 @@ pub struct Guarded<T> {
     all: Vec<T>,
 }
 
-impl<T: Copy + PartialEq + From<u8>> Guarded<T> {
+impl<T: Item> Guarded<T> {
     pub fn new(items: &[T]) -> Guarded<T> {
         let guards = || (0..GUARD).map(guard);
         Guarded { all: guards().chain(items.iter().copied()).chain(guards()).collect() }

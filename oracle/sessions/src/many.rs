@@ -59,7 +59,7 @@ fn script(seed: u64, index: u64) -> Script {
         i if i % 100 == 98 => Some(HUNDREDS),
         _ => None,
     };
-    random::case(seed, index, nodes).script
+    random::case(seed, index, nodes).question
 }
 
 /// What was compared, and the first difference that was found.

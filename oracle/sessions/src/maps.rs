@@ -1,16 +1,16 @@
 //! The bytes that the port answers for `map`, read as what the original holds.
 
+use crate::record::UNWRITTEN;
 use enonkasse_sys as library;
 use judge::hex::Reader;
+use judge::refusals::FULL;
 use plans::mapped::{BySection, Column, Mapped, Record, Widths};
-use plans::question::Answer;
-use plans::refusals::FULL;
+use plans::question::{Answer, Given};
 
 /// Enough for every plan: 4,096 records, as many columns, 512 expressions.
 const ROOM: usize = 1 << 17;
 
-/// What stands where nothing was written, and in place of a size.
-const UNWRITTEN: u8 = 0xa5;
+/// What stands in place of a size that was not written.
 const NO_SIZE: usize = usize::MAX;
 
 /// What exp2pol says of an expression that has no record.
@@ -35,8 +35,10 @@ pub fn answer(frames: &[u8], plan: &[u8], expressions: usize) -> Result<Answer, 
     if without_a_byte != FULL {
         return Err(format!("with a byte less the answer is {}\n", without_a_byte));
     }
-    let mapped = mapped(bytes, expressions);
-    mapped.map(|mapped| Answer::Mapped(Box::new(mapped))).map_err(|text| format!("{}\n", text))
+    match mapped(bytes, expressions) {
+        Ok(mapped) => Ok(Answer::Given(Given::Mapped(Box::new(mapped)))),
+        Err(text) => Err(format!("{}\n", text)),
+    }
 }
 
 /// The number of the answer where there is room enough.
@@ -131,11 +133,11 @@ mod tests {
     use super::*;
     use crate::record::framed;
     use judge::case::cm;
-    use plans::refusals::{MALFORMED, NOT_THERE};
-    use plans::written::{pool, with_columns, SMALL};
+    use judge::refusals::{MALFORMED, NOT_THERE};
+    use plans::written::{pool, small, with_columns};
 
     fn lent() -> (Vec<u8>, Vec<u8>) {
-        (framed(pool(&[cm(0)]).frames()), with_columns(1, SMALL).bytes())
+        (framed(pool(&[cm(0)]).frames()), with_columns(1, small()).bytes())
     }
 
     #[test]

@@ -2,16 +2,16 @@
 //! vectors.
 
 use crate::planned::{Lent, Port, Sent, Stage};
+use asked::checks::answers_the_stored_vectors;
 use enonkasse_sys::STEP_SIZE;
 use judge::case::{add, cm, constant, exp, leaf, mul, neg};
 use judge::kinds::Kind;
 use judge::pool::MAX_NODES;
+use judge::refusals::{CHILD_COUNT, FULL, MALFORMED, NOT_THERE, NO_DIMENSION};
 use plans::input::Input;
 use plans::lists::Segment;
 use plans::plan::Plan;
-use plans::refusals::{CHILDREN, FULL, MALFORMED, NOT_THERE, NO_DIMENSION};
-use plans::vectors;
-use plans::written::{intermediate, pool, pu, ratio, with_columns, SMALL};
+use plans::written::{intermediate, pool, pu, ratio, small, with_columns};
 
 const DESTINATION: usize = 4;
 const SOURCE: usize = 16;
@@ -31,7 +31,7 @@ fn input() -> Input {
         intermediates: vec![intermediate(0, 7)],
         qs: vec![4],
         q2exp: vec![3],
-        ..SMALL
+        ..small()
     };
     Input::new(pool(&trees), &with_columns(2, plan))
 }
@@ -196,7 +196,7 @@ fn what_is_read_first_decides() {
     all_on(&full, FULL, &spoil_list);
     let mut childless = input();
     childless.pool.nodes[2].children.pop();
-    all_on(&childless, CHILDREN, &|_| {});
+    all_on(&childless, CHILD_COUNT, &|_| {});
     all_on(&childless, MALFORMED, &spoil_list);
     all_on(&childless, FULL, &|lent| lent.plan[2..4].fill(u8::MAX));
 }
@@ -213,14 +213,6 @@ fn an_x_dimension_of_0_is_no_dimension() {
 #[test]
 fn the_stored_vectors_are_answered() {
     let path = concat!(env!("CARGO_MANIFEST_DIR"), "/../../vectors/plans.txt");
-    let text = std::fs::read_to_string(path).unwrap();
     let port = Port::default();
-    let mut asked = 0;
-    for vector in vectors::parse(&text).unwrap() {
-        if let Some(answer) = port.say(&vector.case.question).unwrap() {
-            assert_eq!(answer.to_string(), vector.answer, "{}", vector.case.name);
-            asked += 1;
-        }
-    }
-    assert!(asked > 300, "{} vectors", asked);
+    answers_the_stored_vectors(path, |question| port.say(question));
 }

@@ -13,7 +13,7 @@ use judge::literal::Literal;
 use judge::random::Random;
 use plans::input::Input;
 use plans::lists::{Reference, Segment, Step, MAX_SOURCES};
-use plans::question::{Answer, Question};
+use plans::question::{Answer, Given, Question};
 use plans::tally::{questions_on, Questions, Said, Tally};
 use plans::walks::{Domain, Walk};
 use std::sync::Mutex;
@@ -87,7 +87,7 @@ impl Port {
                 return Ok(Answer::Refused(number));
             }
         }
-        sent.segment_of(&lent).map(Answer::Segment)
+        Ok(Answer::Given(Given::Segment(sent.segment_of(&lent)?)))
     }
 
     /// One thing wrong with the same call: its number, and nothing lent has changed.

@@ -5,9 +5,14 @@ use enonkasse_sys::{
     STEP_COUNT_AT, TEMPORARY_COUNT_AT,
 };
 use judge::answer::{Block, State};
+use judge::hex;
 use judge::kinds::Kind;
 use judge::literal::Literal;
 use judge::pool::{Expression, Node, Pool};
+
+/// What stands where nothing was written: in bytes and in words.
+pub const UNWRITTEN: u8 = 0xa5;
+pub const UNWRITTEN_WORD: u64 = u64::from_ne_bytes([UNWRITTEN; 8]);
 
 /// What a context begins with: version, mode, rows, a spare byte.
 const HEAD: [u8; 4] = [0, 0, ROWS as u8, 0];
@@ -20,6 +25,11 @@ pub fn framed(frames: impl IntoIterator<Item = Vec<u8>>) -> Vec<u8> {
         bytes.extend(frame);
     }
     bytes
+}
+
+/// The same, of frames in hexadecimal.
+pub fn framed_hex<'a>(lines: impl IntoIterator<Item = &'a &'a str>) -> Vec<u8> {
+    framed(lines.into_iter().map(|line| hex::decode(line).expect("hexadecimal")))
 }
 
 /// The frames of a pool.

@@ -1,15 +1,11 @@
 //! Bad input to the exported functions: each gets its number, and nothing lent has changed.
 
+use crate::record::{framed_hex, UNWRITTEN};
 use enonkasse_sys::{
     build, fresh, serve, BLOCKS_AT, BLOCK_COUNT_AT, BLOCK_SIZE, CONTEXT_SIZE, MARKS_AT,
     STEP_COUNT_AT, STEP_SIZE, TEMPORARY_COUNT_AT,
 };
-
-const MALFORMED: u8 = 1;
-const NOT_THERE: u8 = 3;
-const NO_PRIMED_MARK: u8 = 7;
-const NO_BLOCK: u8 = 8;
-const FULL: u8 = 9;
+use judge::refusals::{FULL, MALFORMED, NOT_THERE, NO_BLOCK, NO_PRIMED_MARK};
 
 /// cm0·cm1 + cm2, two expressions, and requests.
 const POOL: [&str; 8] = [
@@ -29,14 +25,7 @@ const OTHER: &str = "0300010000";
 const ABSENT: &str = "0300020000";
 
 fn frames(requests: &[&str]) -> Vec<u8> {
-    let mut bytes = Vec::new();
-    for line in POOL.iter().chain(requests) {
-        let digits = (0..line.len()).step_by(2).map(|k| &line[k..k + 2]);
-        let frame: Vec<u8> = digits.map(|pair| u8::from_str_radix(pair, 16).unwrap()).collect();
-        bytes.extend((frame.len() as u16).to_be_bytes());
-        bytes.extend(frame);
-    }
-    bytes
+    framed_hex(POOL.iter().chain(requests))
 }
 
 /// A context and its list.
@@ -48,8 +37,10 @@ struct Lent {
 
 impl Lent {
     fn new(steps: usize) -> Lent {
-        let mut lent =
-            Lent { context: vec![0xa5; CONTEXT_SIZE], list: vec![0xa5; steps * STEP_SIZE] };
+        let mut lent = Lent {
+            context: vec![UNWRITTEN; CONTEXT_SIZE],
+            list: vec![UNWRITTEN; steps * STEP_SIZE],
+        };
         assert_eq!(fresh(&mut lent.context), 0);
         lent
     }
@@ -63,11 +54,11 @@ impl Lent {
 
     fn builds(&mut self, rooms: [usize; 3]) -> u8 {
         let before = self.clone();
-        let mut lists = rooms.map(|room| vec![0xa5; room]);
+        let mut lists = rooms.map(|room| vec![UNWRITTEN; room]);
         let mut sizes = [usize::MAX; 3];
         let ([first, i, last], frames) = (&mut lists, frames(&[]));
         let number = build(&frames, &mut self.context, &self.list, first, i, last, &mut sizes);
-        let untouched = rooms.map(|room| vec![0xa5; room]);
+        let untouched = rooms.map(|room| vec![UNWRITTEN; room]);
         let kept = *self == before && lists == untouched && sizes == [usize::MAX; 3];
         assert!(number == 0 || kept, "a refusal with {} changed what was lent", number);
         number

@@ -1,32 +1,21 @@
 //! Bad input to the degree search, and its limits: each gets its number, and nothing lent has changed; and
 //! the stored vectors.
 
-use crate::record::pool_frames;
+use crate::record::{framed_hex, pool_frames, UNWRITTEN_WORD};
 use crate::searched::say;
+use asked::checks::answers_the_stored_vectors;
+use asked::question::Question as _;
 use enonkasse_sys::{self as library, SET_WORDS};
-use judge::case::{add, cm, exp, mul, Case, Tree};
-use judge::pool::{Flags, Pool, MAX_EXPRESSIONS};
+use judge::case::{add, cm, exp, mul, plain_pool, Tree};
+use judge::pool::MAX_EXPRESSIONS;
+use judge::refusals::{BITS, CHILD_COUNT, CYCLE, FULL, MALFORMED, NOT_THERE, NO_IDENTITY, VISITS};
 use judge::run::on_large_stack;
-use searches::question::{ask, Answer, Question};
-use searches::refusals::{BITS, NOT_THERE, NO_IDENTITY, VISITS};
+use searches::question::{Answer, Given, Question};
 use searches::search::Search;
-use searches::vectors;
-
-const MALFORMED: u8 = 1;
-const CHILD_COUNT: u8 = 2;
-const CYCLE: u8 = 4;
-const FULL: u8 = 9;
-
-const UNWRITTEN: u64 = 0xa5a5_a5a5_a5a5_a5a5;
-
-fn pool(trees: &[Tree]) -> Pool {
-    let flagged: Vec<_> = trees.iter().map(|tree| (tree.clone(), Flags::NONE)).collect();
-    Case::new("", &flagged, &[]).script.pool
-}
 
 /// Document 01's example: e0 = cm0·cm1, e1 = e0·cm2.
 fn frames() -> Vec<u8> {
-    pool_frames(&pool(&[mul(cm(0), cm(1)), mul(exp(0), cm(2))]))
+    pool_frames(&plain_pool(&[mul(cm(0), cm(1)), mul(exp(0), cm(2))]))
 }
 
 /// What is found, or the refusal's number, which leaves all as it was.
@@ -36,12 +25,12 @@ fn found(
     bits: [u64; 2],
     limit: u64,
 ) -> Result<([u64; SET_WORDS], [u64; 2]), u8> {
-    let (mut chosen, mut found) = ([UNWRITTEN; SET_WORDS], [UNWRITTEN; 2]);
+    let (mut chosen, mut found) = ([UNWRITTEN_WORD; SET_WORDS], [UNWRITTEN_WORD; 2]);
     let [n_bits, n_bits_ext] = bits;
     match library::search(frames, identities, n_bits, n_bits_ext, limit, &mut chosen, &mut found) {
         0 => Ok((chosen, found)),
         number => {
-            assert_eq!((chosen, found), ([UNWRITTEN; SET_WORDS], [UNWRITTEN; 2]));
+            assert_eq!((chosen, found), ([UNWRITTEN_WORD; SET_WORDS], [UNWRITTEN_WORD; 2]));
             Err(number)
         }
     }
@@ -118,16 +107,13 @@ fn a_pool_is_admitted_first() {
     assert_eq!(of(&whole[..whole.len() - 1]), Some(MALFORMED));
     assert_eq!(of(&[0xff; 9]), Some(MALFORMED));
     assert_eq!(of(&[0; 9]), Some(MALFORMED));
-    let hex = |lines: &[&str]| -> Vec<u8> {
-        crate::record::framed(lines.iter().map(|line| judge::hex::decode(line).unwrap()))
-    };
-    assert_eq!(of(&hex(&["0107000000020000"])), Some(MALFORMED));
-    assert_eq!(of(&hex(&["010700000000"])), Some(CHILD_COUNT));
-    assert_eq!(of(&hex(&["0107000000010001"])), Some(NOT_THERE));
-    assert_eq!(of(&hex(&["02000000"])), Some(NOT_THERE));
-    assert_eq!(of(&hex(&["011200000000", "02000000"])), Some(CYCLE));
-    assert_eq!(of(&hex(&["011000000000"; 4096])), Some(NO_IDENTITY));
-    assert_eq!(of(&hex(&["011000000000"; 4097])), Some(FULL));
+    assert_eq!(of(&framed_hex(&["0107000000020000"])), Some(MALFORMED));
+    assert_eq!(of(&framed_hex(&["010700000000"])), Some(CHILD_COUNT));
+    assert_eq!(of(&framed_hex(&["0107000000010001"])), Some(NOT_THERE));
+    assert_eq!(of(&framed_hex(&["02000000"])), Some(NOT_THERE));
+    assert_eq!(of(&framed_hex(&["011200000000", "02000000"])), Some(CYCLE));
+    assert_eq!(of(&framed_hex(&["011000000000"; 4096])), Some(NO_IDENTITY));
+    assert_eq!(of(&framed_hex(&["011000000000"; 4097])), Some(FULL));
 }
 
 /// e511 is the sum of e0·cm, .., e510·cm, each a product: all of them are cut.
@@ -136,12 +122,12 @@ fn a_set_has_up_to_511_members() {
     let last = MAX_EXPRESSIONS as u16 - 1;
     let mut trees: Vec<Tree> = (0..last).map(|_| mul(cm(0), cm(1))).collect();
     trees.push((1..last).fold(mul(exp(0), cm(2)), |sum, e| add(sum, mul(exp(e), cm(2)))));
-    let (pool, identities) = (pool(&trees), vec![last]);
+    let (pool, identities) = (plain_pool(&trees), vec![last]);
     let search = Search { pool, identities, n_bits: 3, n_bits_ext: 3, limit: 1_000_000 };
     let question = Question::Search(search);
-    let answer = on_large_stack(|| ask(&question)).unwrap();
+    let answer = on_large_stack(|| question.ask()).unwrap();
     match &answer {
-        Answer::Found(found) => assert_eq!(found.set.len(), usize::from(last)),
+        Answer::Given(Given::Found(found)) => assert_eq!(found.set.len(), usize::from(last)),
         other => panic!("{}", other),
     }
     assert_eq!(say(&question), Ok(Some(answer)));
@@ -150,13 +136,5 @@ fn a_set_has_up_to_511_members() {
 #[test]
 fn the_stored_vectors_are_answered() {
     let path = concat!(env!("CARGO_MANIFEST_DIR"), "/../../vectors/searches.txt");
-    let text = std::fs::read_to_string(path).unwrap();
-    let mut asked = 0;
-    for vector in vectors::parse(&text).unwrap() {
-        if let Some(answer) = say(&vector.case.question).unwrap() {
-            assert_eq!(answer.to_string(), vector.answer, "{}", vector.case.name);
-            asked += 1;
-        }
-    }
-    assert!(asked > 300, "{} vectors", asked);
+    answers_the_stored_vectors(path, say);
 }

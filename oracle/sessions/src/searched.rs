@@ -1,10 +1,10 @@
 //! The port's answers to questions about searches.
 
-use crate::record::pool_frames;
+use crate::record::{pool_frames, UNWRITTEN_WORD};
 use crate::spread;
 use enonkasse_sys::{self as library, MAX_EXPRESSIONS, SET_BIT_WORDS, SET_WORDS};
 use judge::random::Random;
-use searches::question::{Answer, Question};
+use searches::question::{Answer, Given, Question};
 use searches::search::{visits_needed, Found, Search};
 use searches::tally::{Labelled, Questions, Said, Tally};
 
@@ -13,9 +13,6 @@ const SPREAD_EVERY: u64 = 4;
 
 /// Limits are tried around the visits of searches that need at most so many.
 const FEW_VISITS: u64 = 5_000;
-
-/// What stands where nothing was written.
-const UNWRITTEN: u64 = 0xa5a5_a5a5_a5a5_a5a5;
 
 /// Random searches, each also with one visit less than it needs, as many and one more, and some with
 /// large numbers.
@@ -47,7 +44,7 @@ pub fn compare(seed: u64, count: u64) -> Result<(Tally, Option<String>), String>
 pub fn say(question: &Question) -> Said {
     match question {
         Question::Search(search) => Ok(Some(match found(search)? {
-            Ok((found, _)) => Answer::Found(found),
+            Ok((found, _)) => Answer::Given(Given::Found(found)),
             Err(number) => Answer::Refused(number),
         })),
         Question::Constraint(_) => Ok(None),
@@ -64,7 +61,7 @@ pub type Chosen = [u64; SET_WORDS];
 /// What the search finds, with the set as it is lent, or its refusal; or what is wrong with what it left.
 pub fn found(search: &Search) -> Result<Result<(Found, Chosen), u8>, String> {
     let frames = pool_frames(&search.pool);
-    let (mut chosen, mut found) = ([UNWRITTEN; SET_WORDS], [UNWRITTEN; 2]);
+    let (mut chosen, mut found) = ([UNWRITTEN_WORD; SET_WORDS], [UNWRITTEN_WORD; 2]);
     let number = library::search(
         &frames,
         &identities(search),
@@ -86,7 +83,7 @@ pub fn found(search: &Search) -> Result<Result<(Found, Chosen), u8>, String> {
         }
         return Ok(Ok((Found { set, q: q as usize, visits }, chosen)));
     }
-    if chosen != [UNWRITTEN; SET_WORDS] || found != [UNWRITTEN; 2] {
+    if chosen != [UNWRITTEN_WORD; SET_WORDS] || found != [UNWRITTEN_WORD; 2] {
         return Err(format!("refused with {}, and what was lent has changed\n", number));
     }
     Ok(Err(number))

@@ -2,13 +2,14 @@
 //! thing wrong. Everything is lent between guards.
 
 use crate::guarded::Guarded;
+use crate::record;
 use asked::rows::Rows;
 use enonkasse_sys::records::{map_section, PolType};
 use enonkasse_sys::{MAX_RECORDS, SECTIONS};
 use judge::random::Random;
+use judge::refusals::{FULL, MALFORMED};
 use plans::mapped::{BySection, Record, Widths};
-use plans::question::{Answer, Question};
-use plans::refusals::{FULL, MALFORMED};
+use plans::question::{Answer, Given, Question};
 use plans::sections::Placed;
 use plans::tally::{Labelled, Questions, Said, Tally};
 use std::sync::Mutex;
@@ -21,10 +22,7 @@ const MANY_EVERY: u64 = 50;
 const FEW: usize = 40;
 
 /// What stands in columns and widths at first.
-const UNWRITTEN: u16 = 0xa5a5;
-
-/// A record of each guard, before and behind.
-const GUARD: PolType = PolType { section: 0x5a5a, dim: 0x3c3c, section_pos: 0x1234 };
+const UNWRITTEN: u16 = u16::from_ne_bytes([record::UNWRITTEN; 2]);
 
 /// Records of known sections, with any dimensions and positions.
 pub fn questions(seed: u64, index: u64) -> Questions {
@@ -77,13 +75,21 @@ const NO_SECTIONS: [u16; 3] = [SECTIONS as u16, 0x100, u16::MAX];
 
 /// What is lent: records, the three columns, the widths.
 #[derive(Clone, Debug, PartialEq, Eq)]
-struct Lent {
-    records: Vec<PolType>,
-    columns: [Vec<u16>; 3],
-    widths: Vec<u16>,
+pub struct Lent {
+    pub records: Vec<PolType>,
+    pub columns: [Vec<u16>; 3],
+    pub widths: Vec<u16>,
 }
 
 impl Lent {
+    /// That of a seed and index, where all is well.
+    pub fn random(seed: u64, index: u64) -> Result<Lent, String> {
+        match questions(seed, index)?.swap_remove(0).question {
+            Question::Sections(records) => Lent::of(&records),
+            _ => Err("records come first".to_string()),
+        }
+    }
+
     fn of(records: &[Record]) -> Result<Lent, String> {
         let number = |number: usize| u16::try_from(number).map_err(|_| format!("{}\n", number));
         let record = |record: &Record| {
@@ -103,28 +109,23 @@ impl Lent {
 
     /// The answer's number, and what stands after it.
     fn call(&self) -> Result<(u8, Lent), String> {
-        let mut records = vec![GUARD];
-        records.extend(&self.records);
-        records.push(GUARD);
-        let end = records.len() - 1;
+        let mut records = Guarded::new(&self.records);
         let [mut sections, mut dims, mut positions] =
             [0, 1, 2].map(|place| Guarded::new(&self.columns[place]));
         let mut widths = Guarded::new(&self.widths);
         let number = map_section(
-            &mut records[1..end],
+            records.lent(),
             sections.lent(),
             dims.lent(),
             positions.lent(),
             widths.lent(),
         );
         let guarded = [&sections, &dims, &positions, &widths];
-        if !guarded.iter().all(|part| part.guards_stand())
-            || [records[0], records[end]] != [GUARD; 2]
-        {
+        if !guarded.iter().all(|part| part.guards_stand()) || !records.guards_stand() {
             return Err(format!("the answer is {}, and a guard was overwritten\n", number));
         }
         let [sections, dims, positions, widths] = guarded.map(|part| part.items().to_vec());
-        let records = records[1..end].to_vec();
+        let records = records.items().to_vec();
         Ok((number, Lent { records, columns: [sections, dims, positions], widths }))
     }
 
@@ -231,7 +232,8 @@ pub fn say(records: &[Record]) -> Said {
     if number != 0 {
         return lent.refused().map(|number| Some(Answer::Refused(number)));
     }
-    after.placed(&lent).map(|placed| Some(Answer::Placed(Box::new(placed))))
+    let placed = after.placed(&lent)?;
+    Ok(Some(Answer::Given(Given::Placed(Box::new(placed)))))
 }
 
 impl Lent {
@@ -291,9 +293,9 @@ mod tests {
             let compared = plans::tally::compare(1, 40, questions, |question| match question {
                 Question::Sections(records) => on_large_stack(|| say(records)).map(|answer| {
                     answer.map(|answer| match answer {
-                        Answer::Placed(mut placed) => {
+                        Answer::Given(Given::Placed(mut placed)) => {
                             change(&mut placed);
-                            Answer::Placed(placed)
+                            Answer::Given(Given::Placed(placed))
                         }
                         other => other,
                     })

@@ -2,24 +2,19 @@
 //! what stands after each compared.
 
 use crate::evaluation::{self, Evaluated};
-use crate::record::{encoded, framed, pool_frames, said};
+use crate::record::{encoded, framed, pool_frames, said, UNWRITTEN};
 use enonkasse_sys::{self as library, CONTEXT_SIZE, STEP_SIZE};
 use judge::answer::{Answer, StepBytes};
 use judge::kinds::Step;
 use judge::pool::Pool;
 use judge::random::Random;
+use judge::refusals::FULL;
 use judge::run::Original;
 use judge::script::{Command, Request, Script};
 use std::collections::BTreeMap;
 
 /// Steps that a list has room for, unless it is a tight one.
 const ROOM: usize = 16384;
-
-/// What stands where nothing was written.
-const UNWRITTEN: u8 = 0xa5;
-
-/// Document 01's number where lists do not fit. The original has no limits.
-const FULL: u8 = 9;
 
 /// How a script is asked.
 #[derive(Clone, Copy, Debug)]

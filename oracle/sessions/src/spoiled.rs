@@ -1,11 +1,14 @@
 //! Faults in what is lent to a walk, and the number that they get.
 
 use crate::planned::{Lent, Stage};
+use asked::question::Refused;
 use enonkasse_sys::{REFERENCE_SIZE, STEP_SIZE};
+use judge::kinds::Step;
 use judge::pool::{MAX_EXPRESSIONS, MAX_NODES};
+use judge::refusals::{FULL, MALFORMED, NO_RULE};
 use plans::input::Input;
+use plans::original_map::expected;
 use plans::plan::Plan;
-use plans::refusals::{FULL, MALFORMED};
 
 #[derive(Clone, Copy, Debug, PartialEq, Eq)]
 pub enum Fault {
@@ -18,6 +21,9 @@ pub enum Fault {
     Kind,
     Prime,
     SourceCount,
+    /// The first step is none, or has a source too few. The original's fixing does not look at that.
+    UnknownStep,
+    FewSources,
     ShortPlan,
     LongPlan,
     ShortFrames,
@@ -26,7 +32,9 @@ pub enum Fault {
 
 const OF_STEPS: [Fault; 4] = [Fault::CutList, Fault::Kind, Fault::Prime, Fault::SourceCount];
 const OF_FIX: [Fault; 2] = [Fault::Domain, Fault::Counter];
+const OF_FIRST_STEP: [Fault; 2] = [Fault::UnknownStep, Fault::FewSources];
 
+const NO_STEPS: [u8; 4] = [0, 5, 9, u8::MAX];
 const NO_KINDS: [u8; 6] = [0, 1, 7, 0x1b, 0x29, u8::MAX];
 const NO_DOMAINS: [u8; 2] = [2, u8::MAX];
 const NO_COUNTERS: [usize; 2] = [1 << 16, usize::MAX];
@@ -44,6 +52,11 @@ fn list_with_a_step(stage: Stage, lent: &Lent) -> Option<usize> {
     (0..stage.lists()).rev().find(|&place| !lent.lists[place].is_empty())
 }
 
+/// The record that a walk meets first.
+fn first_step(lent: &mut Lent) -> &mut [u8] {
+    lent.lists.iter_mut().find(|list| !list.is_empty()).expect("a step")
+}
+
 impl Fault {
     /// Those of frames and plan.
     pub const OF_READING: [Fault; 4] =
@@ -58,6 +71,10 @@ impl Fault {
         }
         if list_with_a_step(stage, lent).is_some() {
             faults.extend(OF_STEPS);
+            // The dimension pass asks for a source at its turn, and is compared with the original in that.
+            if let Stage::Fix(_) | Stage::Query = stage {
+                faults.extend(OF_FIRST_STEP);
+            }
         }
         faults[drawn(lent) % faults.len()]
     }
@@ -74,6 +91,12 @@ impl Fault {
             Fault::LongList => lent.lists[any % stage.lists()].push(0),
             Fault::Kind | Fault::Prime | Fault::SourceCount => {
                 self.put_into_step(any, &mut lent.lists[list.expect("a step")]);
+            }
+            Fault::UnknownStep => first_step(lent)[0] = NO_STEPS[any % NO_STEPS.len()],
+            Fault::FewSources => {
+                let step = first_step(lent);
+                step[1] =
+                    Step::from_byte(step[0]).map_or(0, |known| known.source_count() as u8 - 1);
             }
             Fault::ShortPlan | Fault::LongPlan => self.put_into_plan(&mut lent.plan),
             Fault::ShortFrames => {
@@ -118,6 +141,13 @@ impl Fault {
         }
         if let Fault::ShortFrames | Fault::GarbageFrames = self {
             return MALFORMED;
+        }
+        if OF_FIRST_STEP.contains(&self) {
+            // Whatever else is refused, but in a list, comes first.
+            return match expected(input) {
+                Err(Refused::With(number)) => number,
+                _ => NO_RULE,
+            };
         }
         Plan::read(plan).err().unwrap_or(MALFORMED)
     }

@@ -126,9 +126,10 @@ pub fn search(random: &mut Random, search: &Search) -> Search {
 #[cfg(test)]
 mod tests {
     use crate::{planned, searched};
+    use asked::question::{Answer, Question};
     use judge::run::on_large_stack;
-    use plans::question as plan_question;
-    use searches::question as search_question;
+    use plans::question::Given as PlanGiven;
+    use searches::question::Given as SearchGiven;
 
     const SEED: u64 = 3;
     const COUNT: u64 = 1000;
@@ -137,12 +138,11 @@ mod tests {
     fn spread_plans_are_accepted_and_large() {
         let mut records = Vec::new();
         for index in 0..COUNT {
-            let answers = || {
+            let answer = || {
                 let questions = planned::questions(SEED, index)?;
-                questions.iter().map(|asked| plan_question::ask(&asked.question)).collect()
+                questions[0].question.ask()
             };
-            let answers: Vec<plan_question::Answer> = on_large_stack(answers).unwrap();
-            if let plan_question::Answer::Mapped(mapped) = &answers[0] {
+            if let Answer::Given(PlanGiven::Mapped(mapped)) = on_large_stack(answer).unwrap() {
                 records.push(mapped.records.len());
             }
         }
@@ -156,11 +156,10 @@ mod tests {
         for index in 0..COUNT {
             let answers = || {
                 let questions = searched::questions(SEED, index)?;
-                questions.iter().map(|asked| search_question::ask(&asked.question)).collect()
+                questions.iter().map(|asked| asked.question.ask()).collect::<Result<Vec<_>, _>>()
             };
-            let answers: Vec<search_question::Answer> = on_large_stack(answers).unwrap();
-            for answer in answers {
-                if let search_question::Answer::Found(found) = answer {
+            for answer in on_large_stack(answers).unwrap() {
+                if let Answer::Given(SearchGiven::Found(found)) = answer {
                     members.extend(found.set);
                 }
             }

@@ -6,13 +6,13 @@ use enonkasse_sys::{
     self as library, CONSTRAINT_NUMBERS, CONSTRAINT_TOTALS, CONTEXT_SIZE, LIST_ROOM,
     MAX_FRAMES_SIZE, SET_BIT_WORDS, SET_WORDS, STEP_SIZE,
 };
-use judge::case::{cm, exp, mul, neg, number, Case, Tree};
-use judge::pool::{Flags, Pool, MAX_EXPRESSIONS, MAX_NODES};
+use judge::case::{cm, exp, mul, neg, number, plain_pool, Tree};
+use judge::pool::{Pool, MAX_EXPRESSIONS, MAX_NODES};
 use judge::script::Request;
 use plans::input::{Draft, Input};
 use plans::lists::Segment;
 use plans::plan::Plan;
-use plans::written::{pu, ratio, with_columns, SMALL};
+use plans::written::{pu, ratio, small, with_columns};
 use std::{ptr, thread};
 
 /// Of the thread that is painted, and how much of it.
@@ -58,11 +58,7 @@ fn pools() -> Vec<(&'static str, Pool)> {
             (0..MAX_EXPRESSIONS).map(|e| mul(chain(reading(e), links - 2), number(5))).collect(),
         ),
     ];
-    let pool = |trees: Vec<Tree>| {
-        let flagged: Vec<_> = trees.into_iter().map(|tree| (tree, Flags::NONE)).collect();
-        Case::new("", &flagged, &[]).script.pool
-    };
-    trees.into_iter().map(|(name, trees)| (name, pool(trees))).collect()
+    trees.into_iter().map(|(name, trees)| (name, plain_pool(&trees))).collect()
 }
 
 /// A plan in which the last expression is everything.
@@ -74,7 +70,7 @@ fn lent_to_walks(pool: &Pool) -> Lent {
         pu: vec![pu(last, last, last, last)],
         pe: vec![ratio(last, last)],
         q2exp: vec![last],
-        ..SMALL
+        ..small()
     };
     let mut segment = Segment::default();
     for line in ["first tmp:0 = add cm:0 cm:0", "i tmp:0 = copy x:0", "last tmp:1 = copy tmp:0"] {

@@ -56,7 +56,7 @@ fn of_sessions(kind: &'static str, mode: Mode, seed: u64, runs: u64) -> Result<S
     let mut numbers = tally.refused.clone();
     let accepted = tally.serves + tally.builds - total(&numbers);
     numbers.insert(ACCEPTED, accepted + evaluated.evaluations);
-    *numbers.entry(plans::refusals::FULL).or_default() += evaluated.short;
+    *numbers.entry(judge::refusals::FULL).or_default() += evaluated.short;
     Ok(Summary { kind, runs, numbers, difference: part.difference(mode, seed)? })
 }
 

@@ -1,15 +1,12 @@
 //! The whole run as one call, compared as a program is: frames in, what document 01 prints out.
 
-use crate::record::{encoded, framed};
+use crate::record::{encoded, framed, UNWRITTEN};
 use enonkasse_sys::{self as library, LIST_ROOM, STEP_SIZE};
 use judge::answer::StepBytes;
 use judge::differ::{differ, Difference, Tally};
 use judge::printed::Printed;
 use judge::program::{Program, Reply};
 use judge::script::Script;
-
-/// What stands where nothing was written.
-const UNWRITTEN: u8 = 0xa5;
 
 struct WholeRun;
 

@@ -1,4 +1,6 @@
--- `replay_pool::filled` is safe: a prefix is as long as it is said to be. Assumes nothing.
+use mathlib.Core.Path.{sym}
+use mathlib.Core.Bool.{true≢false}
+-- `replay_pool::filled` meets its contract. Assumes nothing.
 use lib.ListN.{length-take}
 use native.Mathlib.Omega.{arith}
 use borrow.Author.Needs.{needs}
@@ -6,7 +8,7 @@ use Rattle.replay_pool.proofs.filled.Statement.{statement}
 use Rattle.replay_pool.proofs.filled.Tie as tie
 
 returns : tie.Need-returns
-returns c = search needs
+returns c = λ h. absurd (true≢false (sym h))
 
 slice-relend-prefix-read-full : tie.Need-slice-relend-prefix-read-full
 slice-relend-prefix-read-full c = search needs

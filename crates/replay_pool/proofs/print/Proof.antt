@@ -14,8 +14,5 @@ write-all-requires c κs = search needs
 returns : tie.Need-returns
 returns c = search needs
 
-returns-2 : tie.Need-returns-2
-returns-2 c = search needs
-
 pub print-spec : {M : Type 1} → statement M
-print-spec = tie.close (tie.spec slice-aggregate-write-all write-all-requires returns returns-2)
+print-spec = tie.close (tie.spec slice-aggregate-write-all write-all-requires returns)
