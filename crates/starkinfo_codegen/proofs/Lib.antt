@@ -7,4 +7,5 @@ pub mod Calls
 pub mod Emits
 pub mod Blocks
 pub mod Outs
+pub mod Kids
 pub mod Orders
