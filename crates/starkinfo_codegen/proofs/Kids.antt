@@ -12,17 +12,15 @@ use Rattle.meaning.specs.Refusals.{Answer, done}
 use Rattle.meaning.specs.Order.{inRows, own}
 use Rattle.meaning.specs.Laws.Jobs.{InRows}
 use Rattle.kinds.specs.KindBytes as kind
-use Rattle.kinds.specs.Kinds.{childCount}
 use Rattle.frames.specs.declared.node.Node.{Node}
 use Rattle.frames.specs.Tables.{nodeIn}
-use Rattle.pool.specs.Pool.{Pool, node}
 use Rattle.pool.specs.Trees.{leafOf, Class, binary, fused, constant, negation, leafy, class, grown, tree}
-use Rattle.pool.specs.Laws.Trees.{arity, arity-is}
-use Rattle.pool.specs.Laws.Tabled.{node-at}
+use Rattle.pool.specs.Laws.Trees.{arity}
 use Rattle.starkinfo_codegen.specs.Words.{nodeAt}
-use Rattle.starkinfo_codegen.specs.Emitting.{Rest, tablesOf, poolOf, Pooled}
+use Rattle.starkinfo_codegen.specs.Emitting.{Rest, poolOf, Pooled}
 use Rattle.starkinfo_codegen.specs.Ordering.{leavesOf}
-use Rattle.starkinfo_codegen.proofs.Planned.{inside, grows, kids-earlier}
+use Rattle.starkinfo_codegen.proofs.Planned.{grows, kids-earlier}
+use Rattle.starkinfo_codegen.proofs.Bare.{counted, bare}
 use Rattle.starkinfo_codegen.proofs.Outs.{node-leaves}
 
 module _ (w : List ℕ) (b : Rest) (pooled : Pooled w b) (i : ℕ) (here : i < b .nodeCount) where
@@ -35,14 +33,8 @@ module _ (w : List ℕ) (b : Rest) (pooled : Pooled w b) (i : ℕ) (here : i < b
   abbrev T : ℕ → List Placed
   T c = leaves (tree (poolOf w b) c)
 
-  counted : (c : Class) → class (x .kind) ≡ c → x .count ≡ arity c
-  counted c q =
-      let is = node-at (tablesOf w b) i here in
-      sym (ap (λ (z : Node). z .count) is)
-      ∙ pooled .shaped .counts i (inside w b pooled i here)
-      ∙ ap (λ (z : Node). childCount (z .kind)) is
-      ∙ sym (arity-is (x .kind))
-      ∙ ap arity q
+  has : (c : Class) → class (x .kind) ≡ c → x .count ≡ arity c
+  has = counted w b pooled i here
 
   few : i < 4096
   few = omega (arith, pooled .few)
@@ -55,14 +47,7 @@ module _ (w : List ℕ) (b : Rest) (pooled : Pooled w b) (i : ℕ) (here : i < b
 
   -- ── a leaf ─────────────────────────────────────────────────────────────────
   pub lone : x .count ≡ 0 → L i ≡ (leafOf (nodeIn w (b .literals) i) at i) ∷ []
-  lone z = go (class (x .kind)) refl
-    where
-      go : (c : Class) → class (x .kind) ≡ c → L i ≡ (leafOf (nodeIn w (b .literals) i) at i) ∷ []
-      go (binary o) q = let e = counted (binary o) q in absurd (omega arith)
-      go fused q = let e = counted fused q in absurd (omega arith)
-      go (constant o) q = let e = counted (constant o) q in absurd (omega arith)
-      go negation q = let e = counted negation q in absurd (omega arith)
-      go leafy q = by-tree leafy q
+  lone z = by-tree leafy (bare w b pooled i here z)
 
   -- ── an operation ───────────────────────────────────────────────────────────
   -- its first child, its first two, all three
@@ -99,17 +84,17 @@ module _ (w : List ℕ) (b : Rest) (pooled : Pooled w b) (i : ℕ) (here : i < b
       go negation q =
           let k = kids-earlier w b pooled i here negation q in
           record { first = k .0; rest = []; is = by-tree negation q ∙ under (x .c0) (k .0) ∙ sym (append-nil (L (x .c0))) }
-      go leafy q = absurd (n (counted leafy q))
+      go leafy q = absurd (n (has leafy q))
 
   pub only-one : x .count ≡ 1 → L i ≡ L (x .c0)
   only-one z = go (class (x .kind)) refl
     where
       go : (c : Class) → class (x .kind) ≡ c → L i ≡ L (x .c0)
-      go (binary o) q = let e = counted (binary o) q in absurd (omega arith)
-      go fused q = let e = counted fused q in absurd (omega arith)
+      go (binary o) q = let e = has (binary o) q in absurd (omega arith)
+      go fused q = let e = has fused q in absurd (omega arith)
       go (constant o) q = by-tree (constant o) q ∙ under (x .c0) (kids-earlier w b pooled i here (constant o) q .0)
       go negation q = by-tree negation q ∙ under (x .c0) (kids-earlier w b pooled i here negation q .0)
-      go leafy q = let e = counted leafy q in absurd (omega arith)
+      go leafy q = let e = has leafy q in absurd (omega arith)
 
   pub two : (x .count ≡ 0 → ⊥) → (x .count ≡ 1 → ⊥) → Two
   two n m = go (class (x .kind)) refl
@@ -129,31 +114,31 @@ module _ (w : List ℕ) (b : Rest) (pooled : Pooled w b) (i : ℕ) (here : i < b
             rest = L (x .c2);
             is = by-tree fused q ∙ ap₂ _++_ (under (x .c0) (k .0)) (pair _ _ (k .1 .0) (k .1 .1 .0) refl refl);
           }
-      go (constant o) q = absurd (m (counted (constant o) q))
-      go negation q = absurd (m (counted negation q))
-      go leafy q = absurd (n (counted leafy q))
+      go (constant o) q = absurd (m (has (constant o) q))
+      go negation q = absurd (m (has negation q))
+      go leafy q = absurd (n (has leafy q))
 
   pub only-two : x .count ≡ 2 → L i ≡ L (x .c0) ++ L (x .c1)
   only-two z = go (class (x .kind)) refl
     where
       go : (c : Class) → class (x .kind) ≡ c → L i ≡ L (x .c0) ++ L (x .c1)
       go (binary o) q = let k = kids-earlier w b pooled i here (binary o) q in by-tree (binary o) q ∙ pair _ _ (k .0) (k .1 .0) refl refl
-      go fused q = let e = counted fused q in absurd (omega arith)
-      go (constant o) q = let e = counted (constant o) q in absurd (omega arith)
-      go negation q = let e = counted negation q in absurd (omega arith)
-      go leafy q = let e = counted leafy q in absurd (omega arith)
+      go fused q = let e = has fused q in absurd (omega arith)
+      go (constant o) q = let e = has (constant o) q in absurd (omega arith)
+      go negation q = let e = has negation q in absurd (omega arith)
+      go leafy q = let e = has leafy q in absurd (omega arith)
 
   pub three : (x .count ≡ 0 → ⊥) → (x .count ≡ 1 → ⊥) → (x .count ≡ 2 → ⊥) → Three
   three n m l = go (class (x .kind)) refl
     where
       go : (c : Class) → class (x .kind) ≡ c → Three
-      go (binary o) q = absurd (l (counted (binary o) q))
+      go (binary o) q = absurd (l (has (binary o) q))
       go fused q =
           let k = kids-earlier w b pooled i here fused q in
           record { third = k .1 .1 .0; is = by-tree fused q ∙ ap₂ _++_ (under (x .c0) (k .0)) (pair _ _ (k .1 .0) (k .1 .1 .0) refl refl) }
-      go (constant o) q = absurd (m (counted (constant o) q))
-      go negation q = absurd (m (counted negation q))
-      go leafy q = absurd (n (counted leafy q))
+      go (constant o) q = absurd (m (has (constant o) q))
+      go negation q = absurd (m (has negation q))
+      go leafy q = absurd (n (has leafy q))
 
 -- ── rows ─────────────────────────────────────────────────────────────────────
 -- what is of either is of the chosen

@@ -2,6 +2,7 @@
 pub mod Reading
 pub mod Fused
 pub mod Planned
+pub mod Bare
 pub mod Leaves
 pub mod Calls
 pub mod Emits
