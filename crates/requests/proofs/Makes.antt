@@ -249,5 +249,8 @@ module _ (w x : List ℕ) (b : Rest) (js : List Job) {j : List ℕ} {n : ℕ} (a
                 ∙ p .list);
           }
 
+    pub end-is : {l : List ℕ} {at t k : ℕ} → Progress l at t k → n ≤ k → at ≡ at₀ + allSteps F js
+    end-is {l} {at} {t} {k} p h = omega (arith, p .steps, ap (allSteps F) (nothing-left (p .below) h))
+
     pub finish : {l : List ℕ} {at t k : ℕ} → Progress l at t k → n ≤ k → l ≡ write l₀ (stepSize * at₀) (encoded (stepsFrom F js t₀))
     finish {l} {at} {t} {k} p h = sym (write-none l (stepSize * at)) ∙ rw (nothing-left (p .below) h, encoded-none) at (p .list)

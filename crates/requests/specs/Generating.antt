@@ -19,7 +19,7 @@ use Rattle.starkinfo_codegen.specs.Encoding.{encoded}
 use Rattle.starkinfo_codegen.specs.Emitting.{Rest, poolOf, RowFits}
 use Rattle.starkinfo_codegen.specs.Ordering.{marksOf}
 use Rattle.requests.specs.Planning.{requestsIn, Adds, PlanAsks}
-use Rattle.requests.specs.Making.{stepsFrom}
+use Rattle.requests.specs.Making.{stepsFrom, allSteps, JobsAsk}
 use Rattle.requests.specs.declared.generate.Generation.{Generation}
 use Rattle.requests.specs.declared.generate.Generation.the-variants as generation
 
@@ -29,6 +29,19 @@ numberLimit = 65536
 
 unfoldable pub hasRoom : ℕ → ℕ → ℕ → ℕ → ℕ → Bool
 hasRoom room at t jobs steps = leb (stepSize * (at + steps)) room && ltb (t + (steps - jobs)) numberLimit
+
+-- do the blocks of jobs fit? No plan has more steps than two for each node
+pub record FitAsks (w x : List ℕ) (b : Rest) (js : List Job) (j : List ℕ) (n at t : ℕ) : Type 0 where
+  pub jobs : JobsAsk w x b js j n
+  pub most : allSteps (forest (poolOf w b)) js ≤ 8192
+  pub steps : at < numberLimit
+  pub temporaries : t < numberLimit
+
+abbrev pub FitAsked : List ℕ → List ℕ → List ℕ → ℕ → ℕ → ℕ → Type 0
+FitAsked w x j n at t = (b : Rest) × (js : List Job) × FitAsks w x b js j n at t
+
+abbrev pub FitGiven : List ℕ → List ℕ → List ℕ → ℕ → ℕ → ℕ → ℕ → Bool → Type 0
+FitGiven w x j n at t room r = (b : Rest) (js : List Job) → FitAsks w x b js j n at t → r ≡ hasRoom room at t n (allSteps (forest (poolOf w b)) js)
 
 -- THE ANSWER FITS: the list has room for its steps, and the counter after them is a number
 pub record Fits (E : Forest) (js : List Job) (at t room : ℕ) : Type 0 where

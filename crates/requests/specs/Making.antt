@@ -119,3 +119,9 @@ MakeAsked w x j n at t room = (b : Rest) × (js : List Job) × JobsAsk w x b js 
 abbrev pub MakeGiven : List ℕ → List ℕ → List ℕ → ℕ → ℕ → ℕ → List ℕ → List ℕ → Type 0
 MakeGiven w x j n at t l l′ =
     (b : Rest) (js : List Job) → JobsAsk w x b js j n → Room w x b js at t (length l) → l′ ≡ write l (stepSize * at) (encoded (stepsFrom (E w x b) js t))
+
+-- and the number after the last step
+abbrev pub MakeCounted : List ℕ → List ℕ → List ℕ → ℕ → ℕ → ℕ → List ℕ → List ℕ → ℕ → Type 0
+MakeCounted w x j n at t l l′ r =
+    (b : Rest) (js : List Job) → JobsAsk w x b js j n → Room w x b js at t (length l) →
+    (l′ ≡ write l (stepSize * at) (encoded (stepsFrom (E w x b) js t))) × (r ≡ at + allSteps (E w x b) js)

@@ -1,5 +1,5 @@
 // Requests served over tables: decided first, then written.
-use crate::make::make_all;
+use crate::make::make_counted;
 use crate::make::size_all;
 use crate::plan::Plan;
 use crate::plan::plan_all;
@@ -11,10 +11,13 @@ use starkinfo_codegen::order::JOB_LIMIT;
 ghost use mathlib.Core.Path.{_≡_};
 ghost use lib.ListN.{length};
 ghost use Prim.Native.Nat.{_≤_};
-ghost use Rattle.requests.specs.Generating.{hasRoom, GenerateAsked, GenerateGiven};
+ghost use Rattle.requests.specs.Generating.{hasRoom, FitAsked, FitGiven, GenerateAsked, GenerateGiven};
 
 // A number of a temporary is below this.
 pub const TEMPORARY_LIMIT: usize = 65536;
+
+// The blocks of a plan have no more steps than two for each node. Where there is room for so many, none is counted.
+const MOST_STEPS: usize = 8192;
 
 // How many jobs and steps there are, or the refusal.
 pub enum Generation {
@@ -33,6 +36,26 @@ fn has_room(list: &[u8], at: usize, t: usize, jobs: usize, steps: usize) -> bool
         return false;
     }
     t + (steps - jobs) < TEMPORARY_LIMIT
+}
+
+// Do the blocks of the first n jobs fit?
+fn jobs_fit(
+    nodes: &[u64; NODE_WORDS],
+    expressions: &[u64; EXPRESSION_LIMIT],
+    jobs: &[u64; JOB_LIMIT],
+    list: &[u8],
+    n: usize,
+    at: usize,
+    t: usize,
+) -> bool
+    requires { ⌜ FitAsked (now nodes) (now expressions) (now jobs) n at t ⌝ }
+    ensures { λ r. ⌜ FitGiven (now (nodes .entry)) (now (expressions .entry)) (now (jobs .entry)) n at t (length (now (list .entry))) r ⌝ }
+{
+    if has_room(list, at, t, 0, MOST_STEPS) {
+        return true;
+    }
+    let steps = size_all(nodes, expressions, jobs, n);
+    has_room(list, at, t, n, steps)
 }
 
 // The first `count` requests in a pool of m expressions, after the steps and temporaries of a context with these marks. Where they are refused,
@@ -56,14 +79,13 @@ pub fn generate(
         Plan::NotThere => Generation::NotThere,
         Plan::DoublePrime(i) => Generation::DoublePrime(i),
         Plan::Jobs(n) => {
-            let steps = size_all(nodes, expressions, jobs, n);
-            if !has_room(list, at, t, n, steps) {
+            if !jobs_fit(nodes, expressions, jobs, list, n, at, t) {
                 return Generation::Full;
             }
-            make_all(nodes, expressions, jobs, list, n, at, t);
+            let end = make_counted(nodes, expressions, jobs, list, n, at, t);
             Generation::Made {
                 jobs: n,
-                steps: steps,
+                steps: end - at,
             }
         }
     }

@@ -7,7 +7,7 @@ use starkinfo_codegen::count::block_size;
 use starkinfo_codegen::order::JOB_LIMIT;
 ghost use lib.ListN.{length};
 ghost use Prim.Native.Nat.{_<_};
-ghost use Rattle.requests.specs.Making.{JobSays, OneSizeAsked, OneSizeGiven, OneMakeAsked, OneMakeGiven, SizeAsked, SizeGiven, MakeAsked, MakeGiven};
+ghost use Rattle.requests.specs.Making.{JobSays, OneSizeAsked, OneSizeGiven, OneMakeAsked, OneMakeGiven, SizeAsked, SizeGiven, MakeAsked, MakeCounted, MakeGiven};
 
 // What a word of the table of jobs says.
 pub struct Job {
@@ -75,8 +75,9 @@ pub fn size_all(
     steps
 }
 
-// Writes the blocks of the first n jobs from step number `at` and temporary `t` on. Each block takes a temporary fewer than it has steps.
-pub fn make_all(
+// Writes the blocks of the first n jobs from step number `at` and temporary `t` on, and answers the number after their last step. Each block takes
+// a temporary fewer than it has steps.
+pub fn make_counted(
     nodes: &[u64; NODE_WORDS],
     expressions: &[u64; EXPRESSION_LIMIT],
     jobs: &[u64; JOB_LIMIT],
@@ -84,9 +85,9 @@ pub fn make_all(
     n: usize,
     mut at: usize,
     mut t: usize,
-)
+) -> usize
     requires { ⌜ MakeAsked (now nodes) (now expressions) (now jobs) n at t (length (now list)) ⌝ }
-    ensures { λ _. ⌜ MakeGiven (now (nodes .entry)) (now (expressions .entry)) (now (jobs .entry)) n at t (now (list .entry)) (now (list .exit)) ⌝ }
+    ensures { λ r. ⌜ MakeCounted (now (nodes .entry)) (now (expressions .entry)) (now (jobs .entry)) n at t (now (list .entry)) (now (list .exit)) r ⌝ }
 {
     let mut k: usize = 0;
     while k < n {
@@ -95,4 +96,21 @@ pub fn make_all(
         t += steps - 1;
         k += 1;
     }
+    at
+}
+
+// The same, without an answer.
+pub fn make_all(
+    nodes: &[u64; NODE_WORDS],
+    expressions: &[u64; EXPRESSION_LIMIT],
+    jobs: &[u64; JOB_LIMIT],
+    list: &mut [u8],
+    n: usize,
+    at: usize,
+    t: usize,
+)
+    requires { ⌜ MakeAsked (now nodes) (now expressions) (now jobs) n at t (length (now list)) ⌝ }
+    ensures { λ _. ⌜ MakeGiven (now (nodes .entry)) (now (expressions .entry)) (now (jobs .entry)) n at t (now (list .entry)) (now (list .exit)) ⌝ }
+{
+    make_counted(nodes, expressions, jobs, list, n, at, t);
 }

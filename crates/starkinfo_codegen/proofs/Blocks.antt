@@ -1,7 +1,7 @@
 -- A block: the steps of its root's tree, with the last one's destination changed, or a copy.
 -- Assumes nothing.
 use Prim.Native.Nat.{ℕ, _+_, _*_, _-_, _<_, _≤_}
-use mathlib.Core.Path.{_≡_, sym, _∙_, ap, subst}
+use mathlib.Core.Path.{_≡_, refl, sym, _∙_, ap, subst}
 use mathlib.Core.Bool.{Bool}
 use mathlib.Core.List.{List, [], _∷_, _++_, append-assoc}
 use native.Mathlib.Omega.{arith}
@@ -12,8 +12,9 @@ use Rattle.meaning.specs.Steps.{Ref, StepOp, Step, step, tmpRef, expCell}
 use Rattle.meaning.specs.Emission.{leafRef, Emitted, settled, emit, blockSteps}
 use Rattle.kinds.specs.KindBytes as kind
 use Rattle.kinds.specs.Write.{write, write-is, write-none, write-append, write-length}
-use Rattle.kinds.specs.Steps.{stepSize, stepAt, stepBytes, step-sized, step-read}
-use Rattle.kinds.specs.References.{plainRef}
+use Rattle.kinds.specs.BigEndian.{u16Bytes}
+use Rattle.kinds.specs.Steps.{stepSize, headBytes, stepBytes, step-sized}
+use Rattle.kinds.specs.References.{referenceSize, refBytes, plainRef, ref-sized}
 use Rattle.kinds.specs.declared.reference.Reference.{Reference}
 use Rattle.kinds.specs.declared.step.Step as bytes
 use Rattle.pool.specs.Pool.{node}
@@ -30,17 +31,60 @@ use Rattle.starkinfo_codegen.specs.Emitting.{Rest, tablesOf, poolOf, Poo
 use Rattle.starkinfo_codegen.proofs.Planned.{part-under}
 use Rattle.starkinfo_codegen.proofs.Calls.{taken-node, stepless, leaf-in}
 
--- ── a record put over another ────────────────────────────────────────────────
-pub write-over : (l : List ℕ) (i : ℕ) (us vs : List ℕ) → length us ≡ length vs → i + length us ≤ length l → write (write l i us) i vs ≡ write l i vs
-write-over l i us vs e h =
-    let m : List ℕ = write l i us in
-    let is : m ≡ (take i l ++ us) ++ drop (i + length us) l = write-is l i us h in
-    let t : length (take i l) ≡ i = simp length-take (omega arith) in
-    let g : i + length vs ≤ length m = rw write-length (omega arith) in
-    let e1 : take i m ≡ take i l = ap (take i) (is ∙ append-assoc (take i l) us (drop (i + length us) l)) ∙ take-at (take i l) _ i t in
-    let e2 : drop (i + length vs) m ≡ drop (i + length vs) l
-    = ap (drop (i + length vs)) is ∙ drop-at (take i l ++ us) (drop (i + length us) l) (i + length vs) (simp length-append (omega arith)) ∙ ap (λ n. drop (i + n) l) e in
-    write-is m i vs g ∙ rw (e1, e2) (sym (write-is l i vs (omega arith)))
+-- ── a destination put over another ───────────────────────────────────────────
+-- bytes put over the front of others
+write-front :
+    (m : List ℕ) (q : ℕ) (us vs rest : List ℕ) → length us ≡ length vs → q + length (us ++ rest) ≤ length m →
+    write (write m q (us ++ rest)) q vs ≡ write m q (vs ++ rest)
+write-front m q us vs rest e h =
+    let x : List ℕ = write m q (us ++ rest) in
+    let tail : List ℕ = drop (q + length (us ++ rest)) m in
+    let k : length (us ++ rest) ≡ length us + length rest = length-append us rest in
+    let k′ : length (vs ++ rest) ≡ length vs + length rest = length-append vs rest in
+    let same : length (vs ++ rest) ≡ length (us ++ rest) = omega (arith, k, k′, e) in
+    let t : length (take q m) ≡ q = simp length-take (omega arith) in
+    let is : x ≡ (take q m ++ us) ++ (rest ++ tail) = write-is m q (us ++ rest) h ∙ (simp append-assoc) in
+    let g : q + length vs ≤ length x = rw write-length (omega (arith, h, k, e)) in
+    let e1 : take q x ≡ take q m = ap (take q) (is ∙ append-assoc (take q m) us (rest ++ tail)) ∙ take-at (take q m) _ q t in
+    let e2 : drop (q + length vs) x ≡ rest ++ tail
+    = ap (drop (q + length vs)) is ∙ drop-at (take q m ++ us) (rest ++ tail) (q + length vs) (simp length-append (omega arith)) in
+    let back : write m q (vs ++ rest) ≡ (take q m ++ (vs ++ rest)) ++ tail
+    = write-is m q (vs ++ rest) (omega (arith, h, same)) ∙ ap (λ n. (take q m ++ (vs ++ rest)) ++ drop (q + n) m) same in
+    write-is x q vs g ∙ rw (e1, e2) (sym (back ∙ (simp append-assoc) ∙ sym (append-assoc (take q m) vs (rest ++ tail))))
+
+module _ (s : bytes.Step) where
+  abbrev before : List ℕ
+  before = headBytes (s .op) (s .count) (s .origin)
+
+  abbrev sources : List ℕ
+  sources = refBytes (s .s0) ++ (refBytes (s .s1) ++ refBytes (s .s2))
+
+  before-size : length before ≡ 4
+  unfolding headBytes u16Bytes
+  before-size = refl
+
+  step-parts : (d : Reference) → stepBytes (into s d) ≡ before ++ (refBytes d ++ sources)
+  unfolding stepBytes
+  step-parts d = simp append-assoc
+
+  step-written : (l : List ℕ) (p : ℕ) (d : Reference) → write l p (stepBytes (into s d)) ≡ write (write l p before) (p + 4) (refBytes d ++ sources)
+  step-written l p d =
+      ap (write l p) (step-parts d) ∙ write-append l p before (refBytes d ++ sources)
+      ∙ ap (λ k. write (write l p before) (p + k) (refBytes d ++ sources)) before-size
+
+  parts-size : (d : Reference) → length (refBytes d ++ sources) ≡ 48
+  parts-size d =
+      let n = step-sized (into s d) in
+      let m = ap length (step-parts d) in
+      omega (arith, n, m, length-append before (refBytes d ++ sources), before-size)
+
+  -- another destination put over a step's
+  pub retargeted : (l : List ℕ) (p : ℕ) (d : Reference) → p + stepSize ≤ length l → write (write l p (stepBytes s)) (p + 4) (refBytes d) ≡ write l p (stepBytes (into s d))
+  retargeted l p d h =
+      ap (λ m. write m (p + 4) (refBytes d)) (step-written l p (s .dest))
+      ∙ write-front (write l p before) (p + 4) (refBytes (s .dest)) (refBytes d) sources (ref-sized (s .dest) ∙ sym (ref-sized d))
+      (rw write-length (omega (arith, h, parts-size (s .dest))))
+      ∙ sym (step-written l p d)
 
 -- ── sizes ────────────────────────────────────────────────────────────────────
 module _ (w : List ℕ) (b : Rest) (f : Bool) (i : ℕ) (pool : Pooled w b) (there : i < b .nodeCount) where
@@ -173,17 +217,16 @@ module _ (w : List ℕ) (b : Rest) (f : Bool) (row t i e : ℕ) {at room : ℕ} 
       room-before : length l ≡ room → p + stepSize ≤ length l0
       room-before er = let k = last-room er .0 in rw write-length k
 
+      pub dest-room : {room′ : ℕ} → room′ ≡ room → p + 4 + referenceSize ≤ room′
+      dest-room er = let k = last-room er .0 in omega (arith, k)
+
       pub into-gives :
-          length l ≡ room → {l2 : List ℕ} {c : Reference} {s s′ : bytes.Step} → c ≡ plainRef kind.exp row e → s ≡ stepAt l1 p → s′ ≡ into s c → l2 ≡ write l1 p (stepBytes s′) →
+          length l ≡ room → {l2 : List ℕ} {c : Reference} → c ≡ plainRef kind.exp row e → l2 ≡ write l1 (p + 4) (refBytes c) →
           BlockGives w b f row t i e at l l2 n
-      into-gives er {s = s} {s′ = s′} ec es es′ e2 =
-          let h = room-before er in
-          let k : s ≡ stepRecord (own tmp) = es ∙ ap (λ m. stepAt m p) evaluated ∙ step-read l0 p (stepRecord (own tmp)) h in
-          let k′ : s′ ≡ stepRecord (own D) = es′ ∙ ap (into s) ec ∙ ap (λ m. into m (plainRef kind.exp row e)) k in
-          let sz : length (stepBytes (stepRecord (own tmp))) ≡ stepSize = step-sized (stepRecord (own tmp)) in
-          let sz′ : length (stepBytes (stepRecord (own D))) ≡ stepSize = step-sized (stepRecord (own D)) in
+      into-gives er ec e2 =
+          let d = plainRef kind.exp row e in
           gives
-          (e2 ∙ ap (λ v. write l1 p (stepBytes v)) k′ ∙ ap (λ m. write m p (stepBytes (stepRecord (own D)))) evaluated
-          ∙ write-over l0 p (stepBytes (stepRecord (own tmp))) (stepBytes (stepRecord (own D))) (sz ∙ sym sz′) (omega (arith, sz, h))
+          (e2 ∙ ap (λ c. write l1 (p + 4) (refBytes c)) ec ∙ ap (λ m. write m (p + 4) (refBytes d)) evaluated
+          ∙ retargeted (stepRecord (own tmp)) l0 p d (room-before er)
           ∙ sym (two-writes D) ∙ ap (λ ss. write l (stepSize * at) (encoded ss)) (sym (root-block row t E q D)))
           (n-is ∙ sym (block-count row t E D (λ h. z (n-is ∙ h))))

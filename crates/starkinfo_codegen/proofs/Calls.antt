@@ -35,7 +35,7 @@ rank i = cond (ltb i 4096) (suc i) 0
 rank-node : (i : ℕ) → i < 4096 → rank i ≡ suc i
 rank-node i h = rw (lt-ltb i 4096 h)
 
-rank-falls : (i c : ℕ) → i < 4096 → Operand i c → rank c < rank i
+pub rank-falls : (i c : ℕ) → i < 4096 → Operand i c → rank c < rank i
 rank-falls i c h o = rw (rank-node i h) (go (ltb c 4096) refl)
   where
     go : (x : Bool) → ltb c 4096 ≡ x → cond x (suc c) 0 < suc i

@@ -1,7 +1,7 @@
 -- Emission from a node to its operands and back, with no word of the code: each operand's steps are written after the last, then the node's own.
 -- Assumes nothing.
 use Prim.Native.Nat.{ℕ, _+_, _*_, _<_, _≤_}
-use mathlib.Core.Path.{_≡_, sym, _∙_, ap}
+use mathlib.Core.Path.{_≡_, refl, sym, _∙_, ap}
 use mathlib.Core.Bool.{Bool}
 use mathlib.Core.List.{List, [], _++_, append-assoc}
 use native.Mathlib.Omega.{arith}
@@ -11,6 +11,7 @@ use Rattle.meaning.specs.Emission.{settled, emit}
 use Rattle.kinds.specs.Write.{write, write-none, write-next, write-length}
 use Rattle.kinds.specs.Steps.{stepSize, stepBytes}
 use Rattle.kinds.specs.declared.step.Step as bytes
+use Rattle.starkinfo_codegen.specs.Words.{nodeAt}
 use Rattle.starkinfo_codegen.specs.Encoding.{encoded, encoded-length, encoded-none}
 use Rattle.starkinfo_codegen.specs.Operations.{operationAt}
 use Rattle.starkinfo_codegen.specs.Sources as sources
@@ -19,6 +20,7 @@ use Rattle.starkinfo_codegen.specs.Plans.{Plan, plan, partSteps, planSte
 use Rattle.starkinfo_codegen.specs.Emitting.{Rest, treeOf, partOf, taken, There, Asks, Gives, Given}
 use Rattle.starkinfo_codegen.specs.declared.operation.Operation.{Operation}
 use Rattle.starkinfo_codegen.proofs.Planned.{Operand, Planned, part-under}
+use Rattle.starkinfo_codegen.proofs.Bare.{bare-op}
 use Rattle.starkinfo_codegen.proofs.Calls.{taken-past, steps-past, part-length, leaf-tree, leaf-taken, does, total, under-there, source-is}
 
 module _ (w : List ℕ) (b : Rest) (f : Bool) (row at t i : ℕ) (l0 : List ℕ) (a : Asks w b f row at t i (length l0)) where
@@ -168,3 +170,7 @@ module _ (w : List ℕ) (b : Rest) (f : Bool) (row at t i : ℕ) (l0 : List ℕ)
                 let w4 = write-next l0 p ((A ++ B) ++ C) (stepBytes s) (stepSize * (at + (x + y + z))) w3 e4 (omega (arith, s1, s2, s3, e1, e2, e3, length-append A B, length-append (A ++ B) C)) in
                 let e5 : ((A ++ B) ++ C) ++ stepBytes s ≡ parts x y (ownIn w row i o t x y z) = ap (λ v. ((A ++ B) ++ C) ++ stepBytes v) es ∙ (simp append-assoc) in
                 record { list = w4 ∙ ap (write l0 p) (e5 ∙ sym node-bytes); count = omega (arith, all, e1, e2, e3) }
+
+  -- a node without children is a leaf
+  pub bare-gives : i < 4096 → nodeAt w i .count ≡ 0 → Gives w b f row at t i l0 l0 0
+  bare-gives few z = leaf-gives few (operationAt w f i) refl (bare-op w b f (a .pool) i (a .there few) z)

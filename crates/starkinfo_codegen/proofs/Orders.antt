@@ -1,7 +1,7 @@
 -- Jobs one after another: from an expression to the leaves of its tree and back, with no word of the code.
 -- Assumes nothing.
 use Prim.Native.Nat.{ℕ, zero, suc, _+_, _*_, _-_, _<_, _≤_}
-use mathlib.Core.Path.{_≡_, refl, sym, _∙_, ap, subst, fun-ext}
+use mathlib.Core.Path.{_≡_, refl, sym, _∙_, ap, ap₂, subst, fun-ext}
 use mathlib.Core.Bool.{Bool, true, false, _&&_, _||_, cond}
 use mathlib.Core.Option.{Option, some}
 use mathlib.Core.List.{List, [], _∷_, _++_, append-assoc, append-nil}
@@ -16,7 +16,9 @@ use Rattle.meaning.specs.Refusals.{Refusal, Answer, done, refused, _then_}
 use Rattle.meaning.specs.Trees.{Leaf, Forest, Falls, Acyclic, nth, Placed, _at_, leaves, Each}
 use Rattle.meaning.specs.Trees as meaning
 use Rattle.meaning.specs.Order.{Marks, marking, Job, Asked, nothing, asked, there, primed, own, askLeaf, askLeaves, askBelow}
-use Rattle.meaning.specs.Laws.Tests.{each-left, each-right}
+use Rattle.meaning.specs.Laws.Tests.{true-false, each-left, each-right, each-join}
+use Rattle.meaning.specs.Laws.Fuse.{asked-leaves}
+use Rattle.meaning.specs.Laws.Jobs.{InRows}
 use Rattle.kinds.specs.KindBytes as kind
 use Rattle.kinds.specs.Write.{write, write-none, write-next}
 use Rattle.frames.specs.declared.node.Node.{Node}
@@ -28,15 +30,14 @@ use Rattle.pool.specs.Ranking.{zeros}
 use Rattle.pool.specs.Laws.Tabled.{node-count, expression-count, root-at}
 use Rattle.pool.specs.Laws.Forest.{forest-at, forest-has}
 use Rattle.starkinfo_codegen.specs.Words.{nodeAt}
-use Rattle.starkinfo_codegen.specs.Operations.{operationAt}
 use Rattle.starkinfo_codegen.specs.Emitting.{Rest, tablesOf, poolOf, Pooled, treeOf}
 use Rattle.starkinfo_codegen.specs.JobWords.{words-append, words-length}
 use Rattle.starkinfo_codegen.specs.Marked.{zeros-set, marked, not-marked, marks-set}
 use Rattle.starkinfo_codegen.specs.Ordering.{leavesOf, verdict, OutAsks, cellOf, marksOf, jobAt, jobWords, State, Stopped, Made, Gives, CodeAsks, DepsAsks, coded, needed}
-use Rattle.starkinfo_codegen.specs.declared.operation.Operation.{Operation}
-use Rattle.starkinfo_codegen.proofs.Planned.{Operand, Planned}
-use Rattle.starkinfo_codegen.proofs.Calls.{rank, does, under-there}
-use Rattle.starkinfo_codegen.proofs.Outs.{node-leaves, past-leaves, leaf-leaves, does-leaves, some-out, past-out}
+use Rattle.starkinfo_codegen.proofs.Planned.{Operand}
+use Rattle.starkinfo_codegen.proofs.Calls.{rank, rank-falls}
+use Rattle.starkinfo_codegen.proofs.Outs.{node-leaves, past-leaves, some-out, past-out}
+use Rattle.starkinfo_codegen.proofs.Kids.{One, Two, Three, lone, one, only-one, two, only-two, three, in-rows, own-done}
 
 -- ── words ────────────────────────────────────────────────────────────────────
 pub job-fused : (c : ℕ) (f : Bool) → f ≡ true → c * 2 + 1 ≡ jobAt c f
@@ -112,6 +113,10 @@ module _ (ask : Asks) (r : ℕ) where
               let e : joined c d ≡ a = cc in
               subst (λ (a : Asked). (all (xs ++ ys) (c .marks) then λ b. done (joined c b)) ≡ (all ys (a .marks) then λ b. done (joined a b))) e
               (rw (ih c d p) (last d (all ys (d .marks))))
+
+pub neither : (a b : Bool) → (a || b) ≡ false → (a ≡ false) × (b ≡ false)
+neither true b h = absurd (true-false refl h)
+neither false b h = (refl, h)
 
 pub rank-some : (i : ℕ) → i < 4096 → 1 ≤ rank i
 rank-some i h = rw (lt-ltb i 4096 h) (omega arith)
@@ -215,132 +220,191 @@ module _ (w x : List ℕ) (b : Rest) (A : Acyclic (forest (poolOf w b))) where
     pub past-needs : 4096 ≤ i → Answers i s s j j n n
     past-needs h = nothing-made (A .rank) level _ (a .state) (ap (λ l. needed w x b A levels l row (marksOf s)) (past-leaves w b false i h))
 
-    module _ (few : i < 4096) (o : Operation) (eo : o ≡ operationAt w false i) where
+    pub past-quiet : 4096 ≤ i → Each (InRows 2 row) (L i)
+    past-quiet h = subst (Each (InRows 2 row)) (sym (past-leaves w b false i h)) tt
+
+    module _ (few : i < 4096) where
       pooled : Pooled w b
       pooled = a .world .pool
 
-      -- a leaf
-      module _ (z : o .op ≡ 0) where
-        abbrev y : Node
-        y = nodeIn w (b .literals) i
+      abbrev y : Node
+      y = nodeIn w (b .literals) i
 
-        one : L i ≡ (leafOf y at i) ∷ []
-        one = leaf-leaves w b false pooled i few (a .there) o eo z
+      -- a leaf
+      module _ (z : nodeAt w i .count ≡ 0) where
+        lone-leaf : L i ≡ (leafOf y at i) ∷ []
+        lone-leaf = lone w b pooled i (a .there few) z
 
         needs : needed w x b A levels (L i) row (marksOf s) ≡ askLeaf 2 ask (leafOf y) i row (marksOf s)
-        needs = ap (λ l. needed w x b A levels l row (marksOf s)) one ∙ one-leaf ask row (leafOf y) i (marksOf s)
+        needs = ap (λ l. needed w x b A levels l row (marksOf s)) lone-leaf ∙ one-leaf ask row (leafOf y) i (marksOf s)
 
         pub other-needs : {k : ℕ} → k ≡ nodeAt w i .kind → (k ≡ kind.exp → ⊥) → Answers i s s j j n n
         other-needs ek h = nothing-made (A .rank) level _ (a .state) (needs ∙ other-leaf ask y i row (marksOf s) (λ q. h (ek ∙ q)))
 
-        module _ {k : ℕ} (ek : k ≡ nodeAt w i .kind) (h : k ≡ kind.exp) {t : ℕ} (et : t ≡ nodeAt w i .next) where
-          is-exp : leafOf y ≡ Leaf.exp (y .id) (y .next)
-          is-exp = exp-leaf y (sym ek ∙ h)
+        module _ {t : ℕ} (et : t ≡ nodeAt w i .next) where
+          pub leaf-quiet : row + t < 2 → Each (InRows 2 row) (L i)
+          leaf-quiet l = subst (Each (InRows 2 row)) (sym lone-leaf) (in-rows y row (omega (arith, l, et)), tt)
 
-          exp-needs : needed w x b A levels (L i) row (marksOf s) ≡ (primed 2 (Leaf.exp (y .id) (y .next)) i row then λ _. ask (y .id) (row + y .next) (marksOf s))
-          exp-needs = needs ∙ ap (λ (l : Leaf). askLeaf 2 ask l i row (marksOf s)) is-exp
+          module _ {k : ℕ} (ek : k ≡ nodeAt w i .kind) (h : k ≡ kind.exp) where
+            is-exp : leafOf y ≡ Leaf.exp (y .id) (y .next)
+            is-exp = exp-leaf y (sym ek ∙ h)
 
-          pub exp-out : 2 ≤ row + t → {s′ j′ : List ℕ} → Answers i s s′ j j′ n (1025 + i)
-          exp-out l = blamed (A .rank) level _ i few (exp-needs ∙ rw (le-ltb (row + y .next) 2 (omega (arith, l, et))))
+            exp-needs : needed w x b A levels (L i) row (marksOf s) ≡ (primed 2 (Leaf.exp (y .id) (y .next)) i row then λ _. ask (y .id) (row + y .next) (marksOf s))
+            exp-needs = needs ∙ ap (λ (l : Leaf). askLeaf 2 ask l i row (marksOf s)) is-exp
 
-          module _ (l : row + t < 2) {e : ℕ} (ee : e ≡ nodeAt w i .id) where
-            falls-to : (A .rank e < level) × ((z : meaning.Expression) × (nth F e ≡ some z))
-            falls-to =
-                subst (λ v. (A .rank v < level) × ((z : meaning.Expression) × (nth F v ≡ some z))) (sym ee)
-                (subst (λ (l : Leaf). Falls F (A .rank) level (l at i)) is-exp (subst (Each (Falls F (A .rank) level)) one (a .falls) .0))
+            pub exp-out : 2 ≤ row + t → {s′ j′ : List ℕ} → Answers i s s′ j j′ n (1025 + i)
+            exp-out l = blamed (A .rank) level _ i few (exp-needs ∙ rw (le-ltb (row + y .next) 2 (omega (arith, l, et))))
 
-            pub exp-asks : CodeAsks w x b A s j levels n e (row + t)
-            exp-asks =
-                let f = falls-to in
-                record {
-                  world = a .world;
-                  state = a .state;
-                  there = subst (λ m. e < m) (expression-count (tablesOf w b)) (forest-at (poolOf w b) e (f .1 .0) (f .1 .1) .0);
-                  inRow = l;
-                  deep = omega (arith, f .0, a .deep);
-                }
+            module _ (l : row + t < 2) {e : ℕ} (ee : e ≡ nodeAt w i .id) where
+              falls-to : (A .rank e < level) × ((z : meaning.Expression) × (nth F e ≡ some z))
+              falls-to =
+                  subst (λ v. (A .rank v < level) × ((z : meaning.Expression) × (nth F v ≡ some z))) (sym ee)
+                  (subst (λ (l : Leaf). Falls F (A .rank) level (l at i)) is-exp (subst (Each (Falls F (A .rank) level)) lone-leaf (a .falls) .0))
 
-            pub exp-less : A .rank e < level
-            exp-less = falls-to .0
+              pub exp-asks : CodeAsks w x b A s j levels n e (row + t)
+              exp-asks =
+                  let f = falls-to in
+                  record {
+                    world = a .world;
+                    state = a .state;
+                    there = subst (λ m. e < m) (expression-count (tablesOf w b)) (forest-at (poolOf w b) e (f .1 .0) (f .1 .1) .0);
+                    inRow = l;
+                    deep = omega (arith, f .0, a .deep);
+                  }
 
-            coded-is : needed w x b A levels (L i) row (marksOf s) ≡ coded w x b A levels false e (row + t) (marksOf s)
-            coded-is =
-                exp-needs ∙ rw (lt-ltb (row + y .next) 2 (omega (arith, l, et)))
-                (ap (λ v. ask v (row + y .next) (marksOf s)) (sym ee) ∙ ap (λ v. ask e (row + v) (marksOf s)) (sym et))
+              coded-is : needed w x b A levels (L i) row (marksOf s) ≡ coded w x b A levels false e (row + t) (marksOf s)
+              coded-is =
+                  exp-needs ∙ rw (lt-ltb (row + y .next) 2 (omega (arith, l, et)))
+                  (ap (λ v. ask v (row + y .next) (marksOf s)) (sym ee) ∙ ap (λ v. ask e (row + v) (marksOf s)) (sym et))
 
-            pub exp-gives :
-                {s′ j′ : List ℕ} {r : ℕ} → Gives (A .rank) (suc (A .rank e)) (coded w x b A levels false e (row + t) (marksOf s)) s s′ j j′ n r →
-                Answers i s s′ j j′ n r
-            exp-gives (inl g) = inl (record { low = g .low; high = g .high; is = coded-is ∙ g .is })
-            exp-gives (inr g) = inr (record {
-              jobs = g .jobs;
-              is = coded-is ∙ g .is;
-              written = g .written;
-              count = g .count;
-              state = g .state;
-              kept = λ u q c d. g .kept u q (omega (arith, c, falls-to .0)) d;
-            })
+              pub exp-gives :
+                  {s′ j′ : List ℕ} {r : ℕ} → Gives (A .rank) (suc (A .rank e)) (coded w x b A levels false e (row + t) (marksOf s)) s s′ j j′ n r →
+                  Answers i s s′ j j′ n r
+              exp-gives (inl g) = inl (record { low = g .low; high = g .high; is = coded-is ∙ g .is })
+              exp-gives (inr g) = inr (record {
+                jobs = g .jobs;
+                is = coded-is ∙ g .is;
+                written = g .written;
+                count = g .count;
+                state = g .state;
+                kept = λ u q c d. g .kept u q (omega (arith, c, falls-to .0)) d;
+              })
 
       -- an operation
-      module _ (z : o .op ≡ 0 → ⊥) where
-        D : Planned w b false i o
-        D = does w b false pooled i few (a .there) o eo z
+      abbrev Leads : List Placed → Type 0
+      Leads ls = Each (Falls F (A .rank) level) ls
 
-        is : L i ≡ L (o .a) ++ (L (o .b) ++ L (o .c))
-        is = does-leaves w b false pooled i few (a .there) o eo z
+      child-asks : (c : ℕ) → c < i → Leads (L c) → {s′ j′ : List ℕ} {n′ : ℕ} → State s′ j′ n′ → DepsAsks w x b A level s′ j′ levels n′ row c
+      child-asks c k f t = record {
+        world = a .world;
+        state = t;
+        there = λ l. let h = a .there few in omega arith;
+        inRow = a .inRow;
+        falls = f;
+        deep = a .deep;
+      }
 
-        falls-all : Each (Falls F (A .rank) level) (L (o .a) ++ (L (o .b) ++ L (o .c)))
-        falls-all = subst (Each (Falls F (A .rank) level)) is (a .falls)
+      pub child-falls : (c : ℕ) → c < i → rank c < rank i
+      child-falls c k = rank-falls i c few (record { earlier = λ _. k; known = omega arith })
 
-        falls-rest : Each (Falls F (A .rank) level) (L (o .b) ++ L (o .c))
-        falls-rest = each-right (Falls F (A .rank) level) (L (o .a)) (L (o .b) ++ L (o .c)) falls-all
+      back : (ls : List Placed) → L i ≡ ls → {s′ j′ : List ℕ} {r : ℕ} → Gives (A .rank) level (needed w x b A levels ls row (marksOf s)) s s′ j j′ n r → Answers i s s′ j j′ n r
+      back ls e {s′} {j′} {r} g = subst (λ l. Gives (A .rank) level (needed w x b A levels l row (marksOf s)) s s′ j j′ n r) (sym e) g
 
-        child-asks :
-            (c : ℕ) → Operand i c → Each (Falls F (A .rank) level) (L c) → {s′ j′ : List ℕ} {n′ : ℕ} → State s′ j′ n′ →
-            DepsAsks w x b A level s′ j′ levels n′ row c
-        child-asks c k f t = record {
-          world = a .world;
-          state = t;
-          there = under-there w b false pooled i few (a .there) o eo z c k;
-          inRow = a .inRow;
-          falls = f;
-          deep = a .deep;
-        }
+      module _ {v : ℕ} (ev : v ≡ nodeAt w i .count) (n0 : v ≡ 0 → ⊥) {c0 : ℕ} (e0 : c0 ≡ nodeAt w i .c0) where
+        K1 : One w b pooled i (a .there few)
+        K1 = one w b pooled i (a .there few) (λ z. n0 (ev ∙ z))
 
-        pub first-asks : DepsAsks w x b A level s j levels n row (o .a)
-        first-asks = child-asks (o .a) (D .first) (each-left (Falls F (A .rank) level) (L (o .a)) (L (o .b) ++ L (o .c)) falls-all) (a .state)
+        is1 : L i ≡ L c0 ++ K1 .rest
+        is1 = K1 .is ∙ ap (λ c. L c ++ K1 .rest) (sym e0)
 
-        back : {s′ j′ : List ℕ} {r : ℕ} → Gives (A .rank) level (needed w x b A levels (L (o .a) ++ (L (o .b) ++ L (o .c))) row (marksOf s)) s s′ j j′ n r → Answers i s s′ j j′ n r
-        back {s′} {j′} {r} g = subst (λ l. Gives (A .rank) level (needed w x b A levels l row (marksOf s)) s s′ j j′ n r) (sym is) g
+        pub first-less : c0 < i
+        first-less = omega (arith, e0, K1 .first)
 
-        module _ {s1 j1 : List ℕ} {r1 : ℕ} (g1 : Answers (o .a) s s1 j j1 n r1) where
+        pub first-asks : DepsAsks w x b A level s j levels n row c0
+        first-asks = child-asks c0 first-less (each-left (Falls F (A .rank) level) (L c0) (K1 .rest) (subst Leads is1 (a .falls))) (a .state)
+
+        -- no other
+        module _ (o1 : v ≡ 1) where
+          only : L i ≡ L c0
+          only = only-one w b pooled i (a .there few) (sym ev ∙ o1) ∙ ap L (sym e0)
+
+          pub only-gives : {s1 j1 : List ℕ} {r1 : ℕ} → Answers c0 s s1 j j1 n r1 → Answers i s s1 j j1 n r1
+          only-gives g = back (L c0) only g
+
+          pub only-quiet : Each (InRows 2 row) (L c0) → Each (InRows 2 row) (L i)
+          only-quiet q = subst (Each (InRows 2 row)) (sym only) q
+
+        module _ {s1 j1 : List ℕ} {r1 : ℕ} (g1 : Answers c0 s s1 j j1 n r1) where
           pub first-stops : 1024 < r1 → Answers i s s1 j j1 n r1
-          first-stops l = back (stop-all (A .rank) level ask row (L (o .a)) (L (o .b) ++ L (o .c)) (stopped-is (A .rank) level g1 l))
+          first-stops l = back _ is1 (stop-all (A .rank) level ask row (L c0) (K1 .rest) (stopped-is (A .rank) level g1 l))
 
-          module _ (l1 : r1 ≤ 1024) where
-            m1 : Made (A .rank) level (needed w x b A levels (L (o .a)) row (marksOf s)) s s1 j j1 n r1
+          module _ (l1 : r1 ≤ 1024) (n1 : v ≡ 1 → ⊥) {c1 : ℕ} (e1 : c1 ≡ nodeAt w i .c1) where
+            m1 : Made (A .rank) level (needed w x b A levels (L c0) row (marksOf s)) s s1 j j1 n r1
             m1 = made-not (A .rank) level g1 l1
 
-            pub second-asks : DepsAsks w x b A level s1 j1 levels r1 row (o .b)
-            second-asks = child-asks (o .b) (D .second) (each-left (Falls F (A .rank) level) (L (o .b)) (L (o .c)) falls-rest) (m1 .state)
+            K2 : Two w b pooled i (a .there few)
+            K2 = two w b pooled i (a .there few) (λ z. n0 (ev ∙ z)) (λ z. n1 (ev ∙ z))
 
-            module _ {s2 j2 : List ℕ} {r2 : ℕ} (g2 : Answers (o .b) s1 s2 j1 j2 r1 r2) where
+            is2 : L i ≡ L c0 ++ (L c1 ++ K2 .rest)
+            is2 = K2 .is ∙ ap (λ c. L c ++ (L (nodeAt w i .c1) ++ K2 .rest)) (sym e0) ∙ ap (λ c. L c0 ++ (L c ++ K2 .rest)) (sym e1)
+
+            pub second-less : c1 < i
+            second-less = omega (arith, e1, K2 .second)
+
+            pub second-asks : DepsAsks w x b A level s1 j1 levels r1 row c1
+            second-asks =
+                child-asks c1 second-less
+                (each-left (Falls F (A .rank) level) (L c1) (K2 .rest) (each-right (Falls F (A .rank) level) (L c0) (L c1 ++ K2 .rest) (subst Leads is2 (a .falls))))
+                (m1 .state)
+
+            module _ {s2 j2 : List ℕ} {r2 : ℕ} (g2 : Answers c1 s1 s2 j1 j2 r1 r2) where
               pub second-stops : 1024 < r2 → Answers i s s2 j j2 n r2
               second-stops l =
-                  back (then-all (A .rank) level ask row (L (o .a)) (L (o .b) ++ L (o .c)) m1
-                  (stop-all (A .rank) level ask row (L (o .b)) (L (o .c)) (stopped-is (A .rank) level g2 l)))
+                  back _ is2 (then-all (A .rank) level ask row (L c0) (L c1 ++ K2 .rest) m1
+                  (stop-all (A .rank) level ask row (L c1) (K2 .rest) (stopped-is (A .rank) level g2 l)))
 
-              module _ (l2 : r2 ≤ 1024) where
-                m2 : Made (A .rank) level (needed w x b A levels (L (o .b)) row (marksOf s1)) s1 s2 j1 j2 r1 r2
+              -- no third
+              module _ (o2 : v ≡ 2) where
+                both : L i ≡ L c0 ++ L c1
+                both = only-two w b pooled i (a .there few) (sym ev ∙ o2) ∙ ap₂ (λ c d. L c ++ L d) (sym e0) (sym e1)
+
+                pub both-gives : Answers i s s2 j j2 n r2
+                both-gives = back _ both (then-all (A .rank) level ask row (L c0) (L c1) m1 g2)
+
+                pub both-quiet : Each (InRows 2 row) (L c0) → Each (InRows 2 row) (L c1) → Each (InRows 2 row) (L i)
+                both-quiet p q = subst (Each (InRows 2 row)) (sym both) (each-join (InRows 2 row) (L c0) (L c1) p q)
+
+              module _ (l2 : r2 ≤ 1024) (n2 : v ≡ 2 → ⊥) {c2 : ℕ} (e2 : c2 ≡ nodeAt w i .c2) where
+                m2 : Made (A .rank) level (needed w x b A levels (L c1) row (marksOf s1)) s1 s2 j1 j2 r1 r2
                 m2 = made-not (A .rank) level g2 l2
 
-                pub third-asks : DepsAsks w x b A level s2 j2 levels r2 row (o .c)
-                third-asks = child-asks (o .c) (D .third) (each-right (Falls F (A .rank) level) (L (o .b)) (L (o .c)) falls-rest) (m2 .state)
+                K3 : Three w b pooled i (a .there few)
+                K3 = three w b pooled i (a .there few) (λ z. n0 (ev ∙ z)) (λ z. n1 (ev ∙ z)) (λ z. n2 (ev ∙ z))
 
-                pub third-gives : {s3 j3 : List ℕ} {r3 : ℕ} → Answers (o .c) s2 s3 j2 j3 r2 r3 → Answers i s s3 j j3 n r3
+                all-three : L i ≡ L c0 ++ (L c1 ++ L c2)
+                all-three =
+                    K3 .is
+                    ∙ ap (λ c. L c ++ (L (nodeAt w i .c1) ++ L (nodeAt w i .c2))) (sym e0)
+                    ∙ ap₂ (λ c d. L c0 ++ (L c ++ L d)) (sym e1) (sym e2)
+
+                pub third-less : c2 < i
+                third-less = omega (arith, e2, K3 .third)
+
+                pub third-asks : DepsAsks w x b A level s2 j2 levels r2 row c2
+                third-asks =
+                    child-asks c2 third-less
+                    (each-right (Falls F (A .rank) level) (L c1) (L c2) (each-right (Falls F (A .rank) level) (L c0) (L c1 ++ L c2) (subst Leads all-three (a .falls))))
+                    (m2 .state)
+
+                pub third-gives : {s3 j3 : List ℕ} {r3 : ℕ} → Answers c2 s2 s3 j2 j3 r2 r3 → Answers i s s3 j j3 n r3
                 third-gives g3 =
-                    back (then-all (A .rank) level ask row (L (o .a)) (L (o .b) ++ L (o .c)) m1
-                    (then-all (A .rank) level ask row (L (o .b)) (L (o .c)) m2 g3))
+                    back _ all-three (then-all (A .rank) level ask row (L c0) (L c1 ++ L c2) m1
+                    (then-all (A .rank) level ask row (L c1) (L c2) m2 g3))
+
+                pub third-quiet : Each (InRows 2 row) (L c0) → Each (InRows 2 row) (L c1) → Each (InRows 2 row) (L c2) → Each (InRows 2 row) (L i)
+                third-quiet p q r =
+                    subst (Each (InRows 2 row)) (sym all-three)
+                    (each-join (InRows 2 row) (L c0) (L c1 ++ L c2) p (each-join (InRows 2 row) (L c1) (L c2) q r))
 
   -- ── pil_code_gen ───────────────────────────────────────────────────────────
   module _ {s j : List ℕ} {levels n e row : ℕ} (a : CodeAsks w x b A s j levels n e row) (fused : Bool) where
@@ -393,6 +457,13 @@ module _ (w x : List ℕ) (b : Rest) (A : Acyclic (forest (poolOf w b))) where
 
       pub deps-less : rank q < 4097
       deps-less = rw (lt-ltb q 4096 root-few) (omega (arith, root-few))
+
+      -- a tree without leaves out of rows has none fused either
+      pub quiet-own : Each (InRows 2 row) (L q) → own 2 (leavesOf w b fused q) row ≡ done tt
+      quiet-own h =
+          ap (λ l. own 2 l row) (node-leaves w b fused q root-few)
+          ∙ own-done (leaves (treeOf w b fused q)) row
+          (asked-leaves (InRows 2 row) fused (tree P q) .1 (subst (Each (InRows 2 row)) (node-leaves w b false q root-few) h))
 
       pub out-asks : OutAsks w b fused row q
       out-asks = record { pool = a .world .pool; there = λ h. root-there; inRow = a .inRow }

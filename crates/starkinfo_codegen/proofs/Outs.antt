@@ -59,7 +59,7 @@ module _ (w : List ℕ) (b : Rest) (f : Bool) where
     does-leaves n = node-leaves i few ∙ plan-leaves (treeOf w b f i) (does w b f pooled i few there o eo n .plans)
 
 -- ── a leaf ───────────────────────────────────────────────────────────────────
-none-out : verdict 4096 ≡ done tt
+pub none-out : verdict 4096 ≡ done tt
 unfolding verdict
 none-out = refl
 

@@ -142,7 +142,7 @@ module _ (w : List ℕ) (b : Rest) (pooled : Pooled w b) where
   abbrev at : ℕ → Node
   at n = nodeWith w (b .literals) n
 
-  inside : (n : ℕ) → n < b .nodeCount → n < length (Q .nodes)
+  pub inside : (n : ℕ) → n < b .nodeCount → n < length (Q .nodes)
   inside n h = subst (λ m. n < m) (sym (node-count (tablesOf w b))) h
 
   module _ (n : ℕ) (h : n < b .nodeCount) (c : Class) (q : class (nodeAt w n .kind) ≡ c) where
@@ -153,7 +153,7 @@ module _ (w : List ℕ) (b : Rest) (pooled : Pooled w b) where
     class-is = ap (λ (x : Node). class (x .kind)) is ∙ q
 
     -- its tree and its children
-    grows : tree Q n ≡ grown c (tree Q) n (at n)
+    pub grows : tree Q n ≡ grown c (tree Q) n (at n)
     grows = tree-is Q (pooled .shaped) n (inside n h) ∙ rw (class-is, is)
 
     pub kids-earlier : Each (λ d. d < n) (kids c (at n))

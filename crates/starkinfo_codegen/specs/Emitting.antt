@@ -113,6 +113,10 @@ CountGiven w fused i r = (b : Rest) → CountAsks w b fused i → r ≡ taken w 
 abbrev pub Asked : List ℕ → Bool → ℕ → ℕ → ℕ → ℕ → ℕ → Type 0
 Asked w fused row at t i room = (b : Rest) × Asks w b fused row at t i room
 
+-- of a node
+abbrev pub StepAsked : List ℕ → Bool → ℕ → ℕ → ℕ → ℕ → ℕ → Type 0
+StepAsked w fused row at t i room = Asked w fused row at t i room × (i < 4096)
+
 abbrev pub Given : List ℕ → Bool → ℕ → ℕ → ℕ → ℕ → List ℕ → List ℕ → ℕ → Type 0
 Given w fused row at t i l l′ r = (b : Rest) → Asks w b fused row at t i (length l) → Gives w b fused row at t i l l′ r
 

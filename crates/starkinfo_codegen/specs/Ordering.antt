@@ -12,10 +12,13 @@ use lib.Dec.{ltb}
 use Rattle.meaning.specs.Refusals.{Refusal, Answer, done, refused}
 use Rattle.meaning.specs.Trees.{Placed, leaves, Each, Forest, Falls, Acyclic}
 use Rattle.meaning.specs.Order.{Marks, Job, Asked, primed, own, askLeaves, askBelow}
+use Rattle.meaning.specs.Laws.Jobs.{InRows}
 use Rattle.kinds.specs.Write.{write}
 use Rattle.frames.specs.Tables.{nodeIn}
 use Rattle.pool.specs.Trees.{leafOf, forest}
 use Rattle.pool.specs.Ranking.{zeros}
+use Rattle.starkinfo_codegen.specs.Words.{nodeAt}
+use Rattle.starkinfo_codegen.specs.declared.order.Deps.{Deps}
 use Rattle.starkinfo_codegen.specs.Plans.{Part, under, brought, absent}
 use Rattle.starkinfo_codegen.specs.Emitting.{Rest, poolOf, Pooled, partOf, There}
 
@@ -50,6 +53,11 @@ OutAsked w f row i = (b : Rest) × OutAsks w b f row i
 
 abbrev pub OutGiven : List ℕ → Bool → ℕ → ℕ → ℕ → Type 0
 OutGiven w f row i r = (b : Rest) → OutAsks w b f row i → own 2 (leavesOf w b f i) row ≡ verdict r
+
+-- where it is known that no leaf is out unless one was seen
+abbrev pub SeenGiven : List ℕ → Bool → ℕ → ℕ → Bool → ℕ → Type 0
+SeenGiven w f row i seen r =
+    (b : Rest) → OutAsks w b f row i → (seen ≡ false → own 2 (leavesOf w b f i) row ≡ done tt) → own 2 (leavesOf w b f i) row ≡ verdict r
 
 -- ── marks and jobs ───────────────────────────────────────────────────────────
 abbrev pub cellOf : ℕ → ℕ → ℕ
@@ -139,3 +147,13 @@ abbrev pub DepsGiven : List ℕ → List ℕ → List ℕ → List ℕ → List 
 DepsGiven w x s s′ j j′ levels n row i r =
     (b : Rest) (A : Acyclic (forest (poolOf w b))) (level : ℕ) → DepsAsks w x b A level s j levels n row i →
     Gives (A .rank) level (needed w x b A levels (leavesOf w b false i) row (marksOf s)) s s′ j j′ n r
+
+-- a node without children
+abbrev pub LeafDepsAsked : List ℕ → List ℕ → List ℕ → List ℕ → ℕ → ℕ → ℕ → ℕ → Type 0
+LeafDepsAsked w x s j levels n row i = DepsAsked w x s j levels n row i × (i < 4096) × (nodeAt w i .count ≡ 0)
+
+-- and where all leaves were walked and none was seen out of rows, none is
+abbrev pub QuietGiven : List ℕ → List ℕ → List ℕ → List ℕ → ℕ → ℕ → ℕ → ℕ → Deps → Type 0
+QuietGiven w x s j levels n row i r =
+    (b : Rest) (A : Acyclic (forest (poolOf w b))) (level : ℕ) → DepsAsks w x b A level s j levels n row i → r .jobs ≤ 1024 → r .out ≡ false →
+    Each (InRows 2 row) (leavesOf w b false i)

@@ -6,7 +6,7 @@ use crate::words::kind_of;
 use crate::words::next_of;
 use frames::tables::NODE_WORDS;
 use kinds::kind::Kind;
-ghost use Rattle.starkinfo_codegen.specs.Ordering.{OutAsked, OutGiven, LeafAsked, LeafGiven};
+ghost use Rattle.starkinfo_codegen.specs.Ordering.{OutAsked, OutGiven, LeafAsked, LeafGiven, SeenGiven};
 
 // There are two rows: that of a cell and the next one.
 pub const ROWS: usize = 2;
@@ -50,4 +50,15 @@ pub fn first_out(nodes: &[u64; NODE_WORDS], fused: bool, row: usize, i: u16) -> 
         return b;
     }
     first_out(nodes, fused, row, o.c)
+}
+
+// The same, of a tree in which such a leaf was perhaps seen: where none was, nothing is looked for.
+pub fn first_seen(nodes: &[u64; NODE_WORDS], fused: bool, row: usize, i: u16, seen: bool) -> u16
+    requires { ⌜ OutAsked (now nodes) fused row i ⌝ }
+    ensures { λ r. ⌜ SeenGiven (now (nodes .entry)) fused row i seen r ⌝ }
+{
+    if seen {
+        return first_out(nodes, fused, row, i);
+    }
+    NODE_LIMIT
 }

@@ -1,6 +1,7 @@
 // A pool's nodes in their table of words, by the numbers that operands are.
 use frames::tables::NODE_WORDS;
 use frames::tables::child_at;
+use frames::tables::count_at;
 use frames::tables::id_at;
 use frames::tables::kind_at;
 use frames::tables::next_at;
@@ -30,6 +31,13 @@ pub fn id_of(nodes: &[u64; NODE_WORDS], n: u16) -> u16
     ensures { λ r. ⌜ r ≡ nodeAt (now (nodes .entry)) n .id ⌝ }
 {
     id_at(nodes, n as usize)
+}
+
+pub fn count_of(nodes: &[u64; NODE_WORDS], n: u16) -> u8
+    requires { ⌜ n < 4096 ⌝ }
+    ensures { λ r. ⌜ r ≡ nodeAt (now (nodes .entry)) n .count ⌝ }
+{
+    count_at(nodes, n as usize)
 }
 
 pub fn first_child(nodes: &[u64; NODE_WORDS], n: u16) -> u16
