@@ -2,16 +2,19 @@
 use kinds::step::STEP_SIZE;
 use kinds::step::Step;
 use kinds::step::nth_step;
-use kinds::step::put_nth_step;
+use lists::places::DEST;
+use step_dimensions::known::note_dim;
+use step_dimensions::known::step_dim;
 use step_dimensions::source::TEMPORARIES;
 use step_dimensions::source::Why;
 use step_dimensions::step::Stepped;
 use step_dimensions::step::note_step;
 use step_dimensions::step::step_with;
+use step_dimensions::write::write_dims;
 ghost use mathlib.Core.Path.{_≡_};
 ghost use Prim.Native.Nat.{_+_, _*_, _≤_};
 ghost use lib.ListN.{length};
-ghost use Rattle.kinds.specs.Steps.{stepSize};
+ghost use Rattle.kinds.specs.Steps.{stepSize, stepAt};
 ghost use Rattle.lists.specs.Records.{recordsIn};
 ghost use Rattle.step_dimensions.specs.Answers.{lent};
 ghost use Rattle.dimensions.specs.Answers.{decidedSays, stepTo, listTo, WritesStep, WritesList};
@@ -21,7 +24,8 @@ pub enum Decided {
     Refused(Why),
 }
 
-fn decide_step(
+// By the whole record: what it takes to say why a step is refused.
+fn decide_whole(
     record_dims: &[u16],
     cm_2ns: &[u16],
     qs: &[u16],
@@ -40,6 +44,34 @@ fn decide_step(
     }
 }
 
+fn decide_step(
+    record_dims: &[u16],
+    cm_2ns: &[u16],
+    qs: &[u16],
+    dim_x: u16,
+    temporaries: &mut [u16; TEMPORARIES],
+    list: &[u8],
+    k: usize,
+) -> Decided
+    requires { ⌜ stepSize * k + stepSize ≤ length (now list) ⌝ }
+    ensures { λ r. ⌜ decidedSays r (now (temporaries .exit)) ≡ stepTo (lent (now (record_dims .entry)) (now («cm_2ns» .entry)) (now (qs .entry)) «dim_x») (now (temporaries .entry)) (stepAt (now (list .entry)) (stepSize * k)) ⌝ }
+{
+    let at = STEP_SIZE * k;
+    let dim = step_dim(record_dims, cm_2ns, qs, dim_x, temporaries, list, at);
+    if dim == 0 {
+        return decide_whole(
+            record_dims,
+            cm_2ns,
+            qs,
+            dim_x,
+            temporaries,
+            nth_step(list, k),
+        );
+    }
+    note_dim(temporaries, list, at + DEST, dim);
+    Decided::Done
+}
+
 // Has every step of a list its dimensions? What temporaries hold is carried on; after a refusal it is of no use.
 pub fn decide_list(
     record_dims: &[u16],
@@ -54,14 +86,7 @@ pub fn decide_list(
     let count = list.len() / STEP_SIZE;
     let mut k: usize = 0;
     while k < count {
-        match decide_step(
-            record_dims,
-            cm_2ns,
-            qs,
-            dim_x,
-            temporaries,
-            nth_step(list, k),
-        ) {
+        match decide_step(record_dims, cm_2ns, qs, dim_x, temporaries, list, k) {
             Decided::Refused(w) => {
                 return Decided::Refused(w);
             }
@@ -85,20 +110,15 @@ fn write_step(
     requires { ⌜ stepSize * k + stepSize ≤ length (now list) ⌝ }
     ensures { λ _. ⌜ WritesStep (lent (now (record_dims .entry)) (now («cm_2ns» .entry)) (now (qs .entry)) «dim_x») (now (temporaries .entry)) (now (temporaries .exit)) (now (list .entry)) (now (list .exit)) k ⌝ }
 {
-    match step_with(
+    write_dims(
         record_dims,
         cm_2ns,
         qs,
         dim_x,
         temporaries,
-        nth_step(list, k),
-    ) {
-        Stepped::Refused(_) => {}
-        Stepped::Sized(y) => {
-            put_nth_step(list, k, y);
-            note_step(temporaries, y);
-        }
-    }
+        list,
+        STEP_SIZE * k,
+    );
 }
 
 // Writes a list that was decided.

@@ -5,14 +5,26 @@ use crate::temporaries::rule_dim;
 use crate::temporaries::rule_for;
 use crate::temporaries::rule_id;
 use crate::temporaries::rule_kind;
+use kinds::big_endian::put_u16;
+use kinds::big_endian::u16_at;
 use kinds::kind::Kind;
 use kinds::reference::Reference;
+use kinds::reference::put_reference;
+use kinds::reference::reference_at;
 use kinds::step::STEP_SIZE;
-use kinds::step::Step;
-use kinds::step::nth_step;
-use kinds::step::put_nth_step;
+use lists::places::COUNT;
+use lists::places::DEST;
+use lists::places::ID;
+use lists::places::P;
+use lists::places::S0;
+use lists::places::S1;
+use lists::places::S2;
 ghost use mathlib.Core.Path.{_≡_};
-ghost use lib.ListN.{getD};
+ghost use Prim.Native.Nat.{_+_, _≤_};
+ghost use lib.ListN.{length, getD};
+ghost use Rattle.kinds.specs.Write.{write};
+ghost use Rattle.kinds.specs.References.{referenceSize, refAt, refBytes};
+ghost use Rattle.kinds.specs.Steps.{stepSize, stepAt, stepBytes};
 ghost use Rattle.lent_lists.specs.Records.{usedBy, recordBy, rewritten};
 ghost use Rattle.fixing.specs.Machine.{temporaryIn, expressionIn, referenceIn, Rewrites};
 
@@ -79,65 +91,65 @@ fn fixed_expression(
     }
 }
 
-fn fixed_reference(
+// Only what changes is written: of a cm its p, of an exp all of it.
+fn fix_reference(
     rules: &[u64; EXPRESSION_LIMIT],
     cms: &[u16],
     plain: &[u16; ID_LIMIT],
     primed: &[u16; ID_LIMIT],
-    r: Reference,
-) -> Reference
-    ensures { λ x. ⌜ x ≡ referenceIn (now (rules .entry)) (now (cms .entry)) (now (plain .entry)) (now (primed .entry)) r ⌝ }
+    list: &mut [u8],
+    at: usize,
+)
+    requires { ⌜ at + referenceSize ≤ length (now list) ⌝ }
+    ensures { λ _. ⌜ now (list .exit) ≡ write (now (list .entry)) at (refBytes (referenceIn (now (rules .entry)) (now (cms .entry)) (now (plain .entry)) (now (primed .entry)) (refAt (now (list .entry)) at))) ⌝ }
 {
-    let kind = r.kind;
+    let kind = list[at];
     match kind {
-        Kind::CM => Reference {
-            kind: Kind::CM,
-            prime: r.prime,
-            id: r.id,
-            dim: r.dim,
-            p: word_at(cms, r.id),
-            tree_pos: r.tree_pos,
-            extra: r.extra,
-        },
-        Kind::EXP => fixed_expression(rules, plain, primed, r),
-        _ => r,
+        Kind::CM => {
+            let p = word_at(cms, u16_at(list, at + ID));
+            put_u16(list, at + P, p)
+        }
+        Kind::EXP => {
+            let r = reference_at(list, at);
+            put_reference(list, at, fixed_expression(rules, plain, primed, r))
+        }
+        _ => {}
     }
 }
 
-fn fixed_used(
+fn fix_used(
     rules: &[u64; EXPRESSION_LIMIT],
     cms: &[u16],
     plain: &[u16; ID_LIMIT],
     primed: &[u16; ID_LIMIT],
     used: bool,
-    r: Reference,
-) -> Reference
-    ensures { λ x. ⌜ x ≡ usedBy (referenceIn (now (rules .entry)) (now (cms .entry)) (now (plain .entry)) (now (primed .entry))) used r ⌝ }
+    list: &mut [u8],
+    at: usize,
+)
+    requires { ⌜ at + referenceSize ≤ length (now list) ⌝ }
+    ensures { λ _. ⌜ now (list .exit) ≡ write (now (list .entry)) at (refBytes (usedBy (referenceIn (now (rules .entry)) (now (cms .entry)) (now (plain .entry)) (now (primed .entry))) used (refAt (now (list .entry)) at))) ⌝ }
 {
     if used {
-        return fixed_reference(rules, cms, plain, primed, r);
+        fix_reference(rules, cms, plain, primed, list, at)
     }
-    r
 }
 
-fn fixed_record(
+fn fix_record(
     rules: &[u64; EXPRESSION_LIMIT],
     cms: &[u16],
     plain: &[u16; ID_LIMIT],
     primed: &[u16; ID_LIMIT],
-    s: Step,
-) -> Step
-    ensures { λ x. ⌜ x ≡ recordBy (referenceIn (now (rules .entry)) (now (cms .entry)) (now (plain .entry)) (now (primed .entry))) s ⌝ }
+    list: &mut [u8],
+    at: usize,
+)
+    requires { ⌜ at + stepSize ≤ length (now list) ⌝ }
+    ensures { λ _. ⌜ now (list .exit) ≡ write (now (list .entry)) at (stepBytes (recordBy (referenceIn (now (rules .entry)) (now (cms .entry)) (now (plain .entry)) (now (primed .entry))) (stepAt (now (list .entry)) at))) ⌝ }
 {
-    Step {
-        op: s.op,
-        count: s.count,
-        origin: s.origin,
-        dest: fixed_reference(rules, cms, plain, primed, s.dest),
-        s0: fixed_used(rules, cms, plain, primed, 0 < s.count, s.s0),
-        s1: fixed_used(rules, cms, plain, primed, 1 < s.count, s.s1),
-        s2: fixed_used(rules, cms, plain, primed, 2 < s.count, s.s2),
-    }
+    let count = list[at + COUNT];
+    fix_reference(rules, cms, plain, primed, list, at + DEST);
+    fix_used(rules, cms, plain, primed, 0 < count, list, at + S0);
+    fix_used(rules, cms, plain, primed, 1 < count, list, at + S1);
+    fix_used(rules, cms, plain, primed, 2 < count, list, at + S2);
 }
 
 fn fix_list(
@@ -152,8 +164,7 @@ fn fix_list(
     let count = list.len() / STEP_SIZE;
     let mut k: usize = 0;
     while k < count {
-        let s = nth_step(list, k);
-        put_nth_step(list, k, fixed_record(rules, cms, plain, primed, s));
+        fix_record(rules, cms, plain, primed, list, STEP_SIZE * k);
         k += 1;
     }
 }

@@ -1,17 +1,25 @@
 // Has each reference of a list a rule, and is each cm there? A refusal is its number, 0 where there is none.
 use crate::temporaries::LAST_COUNTER;
+use kinds::big_endian::u16_at;
 use kinds::kind::Kind;
-use kinds::reference::Reference;
 use kinds::refusal::MALFORMED;
 use kinds::refusal::NO_RULE;
 use kinds::refusal::NONE;
 use kinds::refusal::NOT_THERE;
 use kinds::step::STEP_SIZE;
-use kinds::step::Step;
-use kinds::step::nth_step;
 use lent_lists::records::good_lists;
 use lent_lists::records::has_step;
+use lists::places::COUNT;
+use lists::places::DEST;
+use lists::places::ID;
+use lists::places::S0;
+use lists::places::S1;
+use lists::places::S2;
 ghost use mathlib.Core.Path.{_≡_};
+ghost use Prim.Native.Nat.{_+_, _≤_};
+ghost use lib.ListN.{length};
+ghost use Rattle.kinds.specs.References.{referenceSize, refAt};
+ghost use Rattle.kinds.specs.Steps.{stepSize, stepAt};
 ghost use Rattle.lent_lists.specs.Verdicts.{verdictNo};
 ghost use Rattle.lists.specs.Records.{recordsIn};
 ghost use Rattle.lent_lists.specs.Records.{segmentIn};
@@ -19,13 +27,14 @@ ghost use Rattle.lent_lists.specs.Walks.{walked, usedVerdict, recordVerdict};
 ghost use Rattle.fixing.specs.ProverCode.{ruledReference, decided};
 
 // tree1 to tree4 and Z have no rule; a cm needs a record in this domain.
-fn ruled_reference(cms: &[u16], r: Reference) -> u8
-    ensures { λ n. ⌜ n ≡ verdictNo (ruledReference (now (cms .entry)) r) ⌝ }
+fn ruled_reference(cms: &[u16], list: &[u8], at: usize) -> u8
+    requires { ⌜ at + referenceSize ≤ length (now list) ⌝ }
+    ensures { λ n. ⌜ n ≡ verdictNo (ruledReference (now (cms .entry)) (refAt (now (list .entry)) at)) ⌝ }
 {
-    let kind = r.kind;
+    let kind = list[at];
     match kind {
         Kind::CM => {
-            if (r.id as usize) < cms.len() {
+            if (u16_at(list, at + ID) as usize) < cms.len() {
                 return NONE;
             }
             NOT_THERE
@@ -35,35 +44,38 @@ fn ruled_reference(cms: &[u16], r: Reference) -> u8
     }
 }
 
-fn ruled_used(cms: &[u16], used: bool, r: Reference) -> u8
-    ensures { λ n. ⌜ n ≡ verdictNo (usedVerdict (ruledReference (now (cms .entry))) used r) ⌝ }
+fn ruled_used(cms: &[u16], used: bool, list: &[u8], at: usize) -> u8
+    requires { ⌜ at + referenceSize ≤ length (now list) ⌝ }
+    ensures { λ n. ⌜ n ≡ verdictNo (usedVerdict (ruledReference (now (cms .entry))) used (refAt (now (list .entry)) at)) ⌝ }
 {
     if used {
-        return ruled_reference(cms, r);
+        return ruled_reference(cms, list, at);
     }
     NONE
 }
 
 // Its step, its sources from left to right, its destination.
-fn ruled_record(cms: &[u16], s: Step) -> u8
-    ensures { λ n. ⌜ n ≡ verdictNo (recordVerdict (ruledReference (now (cms .entry))) s) ⌝ }
+fn ruled_record(cms: &[u16], list: &[u8], at: usize) -> u8
+    requires { ⌜ at + stepSize ≤ length (now list) ⌝ }
+    ensures { λ n. ⌜ n ≡ verdictNo (recordVerdict (ruledReference (now (cms .entry))) (stepAt (now (list .entry)) at)) ⌝ }
 {
-    if !has_step(s) {
+    let count = list[at + COUNT];
+    if !has_step(list[at], count) {
         return NO_RULE;
     }
-    let first = ruled_used(cms, 0 < s.count, s.s0);
+    let first = ruled_used(cms, 0 < count, list, at + S0);
     if first != NONE {
         return first;
     }
-    let second = ruled_used(cms, 1 < s.count, s.s1);
+    let second = ruled_used(cms, 1 < count, list, at + S1);
     if second != NONE {
         return second;
     }
-    let third = ruled_used(cms, 2 < s.count, s.s2);
+    let third = ruled_used(cms, 2 < count, list, at + S2);
     if third != NONE {
         return third;
     }
-    ruled_reference(cms, s.dest)
+    ruled_reference(cms, list, at + DEST)
 }
 
 fn ruled_list(cms: &[u16], list: &[u8]) -> u8
@@ -72,7 +84,7 @@ fn ruled_list(cms: &[u16], list: &[u8]) -> u8
     let count = list.len() / STEP_SIZE;
     let mut k: usize = 0;
     while k < count {
-        let refused = ruled_record(cms, nth_step(list, k));
+        let refused = ruled_record(cms, list, STEP_SIZE * k);
         if refused != NONE {
             return refused;
         }

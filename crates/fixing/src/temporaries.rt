@@ -1,11 +1,20 @@
 // New temporaries: one for each (prime, expression) of a segment, in the order of the walk. `plain` and `primed` have for each expression its temporary's
 // number plus one, 0 for none. Past the last counter there is `OVER`, which stays.
+use kinds::big_endian::u16_at;
 use kinds::kind::Kind;
-use kinds::reference::Reference;
 use kinds::step::STEP_SIZE;
-use kinds::step::Step;
-use kinds::step::nth_step;
+use lists::places::COUNT;
+use lists::places::DEST;
+use lists::places::ID;
+use lists::places::PRIME;
+use lists::places::S0;
+use lists::places::S1;
+use lists::places::S2;
 ghost use mathlib.Core.Path.{_≡_};
+ghost use Prim.Native.Nat.{_+_, _≤_};
+ghost use lib.ListN.{length};
+ghost use Rattle.kinds.specs.References.{referenceSize, refAt};
+ghost use Rattle.kinds.specs.Steps.{stepSize, stepAt};
 ghost use Rattle.lists.specs.Records.{recordsIn};
 ghost use Rattle.lent_lists.specs.Records.{segmentIn};
 ghost use Rattle.fixing.specs.ProverCode.{ruleKind, ruleId, ruleDim, ruleFor};
@@ -79,20 +88,23 @@ fn give_reference(
     plain: &mut [u16; ID_LIMIT],
     primed: &mut [u16; ID_LIMIT],
     next: usize,
-    r: Reference,
+    list: &[u8],
+    at: usize,
 ) -> usize
-    ensures { λ n. ⌜ tables (now (plain .exit)) (now (primed .exit)) n ≡ giveReference (now (rules .entry)) r (tables (now (plain .entry)) (now (primed .entry)) next) ⌝ }
+    requires { ⌜ at + referenceSize ≤ length (now list) ⌝ }
+    ensures { λ n. ⌜ tables (now (plain .exit)) (now (primed .exit)) n ≡ giveReference (now (rules .entry)) (refAt (now (list .entry)) at) (tables (now (plain .entry)) (now (primed .entry)) next) ⌝ }
 {
-    if r.kind != Kind::EXP {
+    if list[at] != Kind::EXP {
         return next;
     }
-    if !takes_temporary(rules, r.id) {
+    let id = u16_at(list, at + ID);
+    if !takes_temporary(rules, id) {
         return next;
     }
-    if r.prime == 0 {
-        return give(plain, r.id, next);
+    if list[at + PRIME] == 0 {
+        return give(plain, id, next);
     }
-    give(primed, r.id, next)
+    give(primed, id, next)
 }
 
 fn give_used(
@@ -101,12 +113,14 @@ fn give_used(
     primed: &mut [u16; ID_LIMIT],
     next: usize,
     used: bool,
-    r: Reference,
+    list: &[u8],
+    at: usize,
 ) -> usize
-    ensures { λ n. ⌜ tables (now (plain .exit)) (now (primed .exit)) n ≡ giveUsed (now (rules .entry)) used r (tables (now (plain .entry)) (now (primed .entry)) next) ⌝ }
+    requires { ⌜ at + referenceSize ≤ length (now list) ⌝ }
+    ensures { λ n. ⌜ tables (now (plain .exit)) (now (primed .exit)) n ≡ giveUsed (now (rules .entry)) used (refAt (now (list .entry)) at) (tables (now (plain .entry)) (now (primed .entry)) next) ⌝ }
 {
     if used {
-        return give_reference(rules, plain, primed, next, r);
+        return give_reference(rules, plain, primed, next, list, at);
     }
     next
 }
@@ -117,14 +131,17 @@ fn give_record(
     plain: &mut [u16; ID_LIMIT],
     primed: &mut [u16; ID_LIMIT],
     next: usize,
-    s: Step,
+    list: &[u8],
+    at: usize,
 ) -> usize
-    ensures { λ n. ⌜ tables (now (plain .exit)) (now (primed .exit)) n ≡ giveRecord (now (rules .entry)) s (tables (now (plain .entry)) (now (primed .entry)) next) ⌝ }
+    requires { ⌜ at + stepSize ≤ length (now list) ⌝ }
+    ensures { λ n. ⌜ tables (now (plain .exit)) (now (primed .exit)) n ≡ giveRecord (now (rules .entry)) (stepAt (now (list .entry)) at) (tables (now (plain .entry)) (now (primed .entry)) next) ⌝ }
 {
-    let first = give_used(rules, plain, primed, next, 0 < s.count, s.s0);
-    let second = give_used(rules, plain, primed, first, 1 < s.count, s.s1);
-    let third = give_used(rules, plain, primed, second, 2 < s.count, s.s2);
-    give_reference(rules, plain, primed, third, s.dest)
+    let count = list[at + COUNT];
+    let first = give_used(rules, plain, primed, next, 0 < count, list, at + S0);
+    let second = give_used(rules, plain, primed, first, 1 < count, list, at + S1);
+    let third = give_used(rules, plain, primed, second, 2 < count, list, at + S2);
+    give_reference(rules, plain, primed, third, list, at + DEST)
 }
 
 fn give_list(
@@ -140,7 +157,7 @@ fn give_list(
     let mut after = next;
     let mut k: usize = 0;
     while k < count {
-        after = give_record(rules, plain, primed, after, nth_step(list, k));
+        after = give_record(rules, plain, primed, after, list, STEP_SIZE * k);
         k += 1;
     }
     after

@@ -26,6 +26,10 @@ goodLists first i last = goodList first && (goodList i && goodList last)
 
 -- ---- a step
 
+-- a step byte that is known, and as many sources as the step needs
+abbrev pub runsBy : ℕ → ℕ → Bool
+runsBy op count = isStep op && leb (sourcesNeeded op) count
+
 -- its step byte is known, and it has the sources that the step needs
 unfoldable pub runs : Step → Bool
 runs x = isStep (x .op) && leb (sourcesNeeded (x .op)) (x .count)

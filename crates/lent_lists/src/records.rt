@@ -1,9 +1,8 @@
-// Are the lists of a segment well formed, and has a record a step that runs?
-use kinds::step::Step;
+// Are the lists of a segment well formed, and does a step of so many sources run?
 use kinds::step_op::StepOp;
 use lists::records::good_list;
 ghost use mathlib.Core.Path.{_≡_};
-ghost use Rattle.lent_lists.specs.Records.{goodLists, runs};
+ghost use Rattle.lent_lists.specs.Records.{goodLists, runsBy};
 
 // All three lists of a segment.
 pub fn good_lists(first: &[u8], i: &[u8], last: &[u8]) -> bool
@@ -19,11 +18,11 @@ pub fn good_lists(first: &[u8], i: &[u8], last: &[u8]) -> bool
 }
 
 // Is its step byte known, and has it the sources that the step needs?
-pub fn has_step(s: Step) -> bool
-    ensures { λ b. ⌜ b ≡ runs s ⌝ }
+pub fn has_step(op: u8, count: u8) -> bool
+    ensures { λ b. ⌜ b ≡ runsBy op count ⌝ }
 {
-    if StepOp::is_step(s.op) {
-        return StepOp::sources_needed(s.op) <= s.count;
+    if StepOp::is_step(op) {
+        return StepOp::sources_needed(op) <= count;
     }
     false
 }

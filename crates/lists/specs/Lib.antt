@@ -2,3 +2,4 @@
 pub mod Records
 pub mod Decoding
 pub mod Laws
+pub mod Parts

@@ -1,15 +1,26 @@
 // A cm's tree, by its record in "2ns": kind, position and dimension in one number.
+use kinds::big_endian::u16_at;
 use kinds::kind::Kind;
 use kinds::reference::Reference;
+use kinds::reference::put_reference;
+use kinds::reference::reference_at;
 use kinds::refusal::NO_RULE;
 use kinds::refusal::NONE;
 use kinds::refusal::NOT_THERE;
 use kinds::step::STEP_SIZE;
-use kinds::step::Step;
-use kinds::step::nth_step;
-use kinds::step::put_nth_step;
 use lent_lists::records::has_step;
+use lists::places::COUNT;
+use lists::places::DEST;
+use lists::places::ID;
+use lists::places::S0;
+use lists::places::S1;
+use lists::places::S2;
 ghost use mathlib.Core.Path.{_≡_};
+ghost use Prim.Native.Nat.{_+_, _≤_};
+ghost use lib.ListN.{length};
+ghost use Rattle.kinds.specs.Write.{write};
+ghost use Rattle.kinds.specs.References.{referenceSize, refAt, refBytes};
+ghost use Rattle.kinds.specs.Steps.{stepSize, stepAt, stepBytes};
 ghost use Rattle.lent_lists.specs.Verdicts.{verdictNo};
 ghost use Rattle.lists.specs.Records.{recordsIn};
 ghost use Rattle.lent_lists.specs.Records.{segmentIn, usedBy, recordBy, rewritten};
@@ -43,46 +54,50 @@ fn has_tree(tree: u64) -> bool
 }
 
 // A cm needs a tree; any other reference stays.
-fn treed_reference(trees: &[u64], r: Reference) -> u8
-    ensures { λ n. ⌜ n ≡ verdictNo (treedReference (now (trees .entry)) r) ⌝ }
+fn treed_reference(trees: &[u64], list: &[u8], at: usize) -> u8
+    requires { ⌜ at + referenceSize ≤ length (now list) ⌝ }
+    ensures { λ n. ⌜ n ≡ verdictNo (treedReference (now (trees .entry)) (refAt (now (list .entry)) at)) ⌝ }
 {
-    if r.kind != Kind::CM {
+    if list[at] != Kind::CM {
         return NONE;
     }
-    if has_tree(tree_for(trees, r.id)) {
+    if has_tree(tree_for(trees, u16_at(list, at + ID))) {
         return NONE;
     }
     NOT_THERE
 }
 
-fn treed_used(trees: &[u64], used: bool, r: Reference) -> u8
-    ensures { λ n. ⌜ n ≡ verdictNo (usedVerdict (treedReference (now (trees .entry))) used r) ⌝ }
+fn treed_used(trees: &[u64], used: bool, list: &[u8], at: usize) -> u8
+    requires { ⌜ at + referenceSize ≤ length (now list) ⌝ }
+    ensures { λ n. ⌜ n ≡ verdictNo (usedVerdict (treedReference (now (trees .entry))) used (refAt (now (list .entry)) at)) ⌝ }
 {
     if used {
-        return treed_reference(trees, r);
+        return treed_reference(trees, list, at);
     }
     NONE
 }
 
-fn treed_record(trees: &[u64], s: Step) -> u8
-    ensures { λ n. ⌜ n ≡ verdictNo (recordVerdict (treedReference (now (trees .entry))) s) ⌝ }
+fn treed_record(trees: &[u64], list: &[u8], at: usize) -> u8
+    requires { ⌜ at + stepSize ≤ length (now list) ⌝ }
+    ensures { λ n. ⌜ n ≡ verdictNo (recordVerdict (treedReference (now (trees .entry))) (stepAt (now (list .entry)) at)) ⌝ }
 {
-    if !has_step(s) {
+    let count = list[at + COUNT];
+    if !has_step(list[at], count) {
         return NO_RULE;
     }
-    let first = treed_used(trees, 0 < s.count, s.s0);
+    let first = treed_used(trees, 0 < count, list, at + S0);
     if first != NONE {
         return first;
     }
-    let second = treed_used(trees, 1 < s.count, s.s1);
+    let second = treed_used(trees, 1 < count, list, at + S1);
     if second != NONE {
         return second;
     }
-    let third = treed_used(trees, 2 < s.count, s.s2);
+    let third = treed_used(trees, 2 < count, list, at + S2);
     if third != NONE {
         return third;
     }
-    treed_reference(trees, s.dest)
+    treed_reference(trees, list, at + DEST)
 }
 
 fn treed_list(trees: &[u64], list: &[u8]) -> u8
@@ -91,7 +106,7 @@ fn treed_list(trees: &[u64], list: &[u8]) -> u8
     let count = list.len() / STEP_SIZE;
     let mut k: usize = 0;
     while k < count {
-        let refused = treed_record(trees, nth_step(list, k));
+        let refused = treed_record(trees, list, STEP_SIZE * k);
         if refused != NONE {
             return refused;
         }
@@ -133,27 +148,35 @@ fn tree_reference(trees: &[u64], r: Reference) -> Reference
     }
 }
 
-fn tree_used(trees: &[u64], used: bool, r: Reference) -> Reference
-    ensures { λ x. ⌜ x ≡ usedBy (treeReference (now (trees .entry))) used r ⌝ }
+// Any reference but a cm stays.
+fn put_tree(trees: &[u64], list: &mut [u8], at: usize)
+    requires { ⌜ at + referenceSize ≤ length (now list) ⌝ }
+    ensures { λ _. ⌜ now (list .exit) ≡ write (now (list .entry)) at (refBytes (treeReference (now (trees .entry)) (refAt (now (list .entry)) at))) ⌝ }
 {
-    if used {
-        return tree_reference(trees, r);
+    if list[at] == Kind::CM {
+        let r = reference_at(list, at);
+        put_reference(list, at, tree_reference(trees, r))
     }
-    r
 }
 
-fn tree_record(trees: &[u64], s: Step) -> Step
-    ensures { λ x. ⌜ x ≡ recordBy (treeReference (now (trees .entry))) s ⌝ }
+fn put_used(trees: &[u64], used: bool, list: &mut [u8], at: usize)
+    requires { ⌜ at + referenceSize ≤ length (now list) ⌝ }
+    ensures { λ _. ⌜ now (list .exit) ≡ write (now (list .entry)) at (refBytes (usedBy (treeReference (now (trees .entry))) used (refAt (now (list .entry)) at))) ⌝ }
 {
-    Step {
-        op: s.op,
-        count: s.count,
-        origin: s.origin,
-        dest: tree_reference(trees, s.dest),
-        s0: tree_used(trees, 0 < s.count, s.s0),
-        s1: tree_used(trees, 1 < s.count, s.s1),
-        s2: tree_used(trees, 2 < s.count, s.s2),
+    if used {
+        put_tree(trees, list, at)
     }
+}
+
+fn put_trees(trees: &[u64], list: &mut [u8], at: usize)
+    requires { ⌜ at + stepSize ≤ length (now list) ⌝ }
+    ensures { λ _. ⌜ now (list .exit) ≡ write (now (list .entry)) at (stepBytes (recordBy (treeReference (now (trees .entry))) (stepAt (now (list .entry)) at))) ⌝ }
+{
+    let count = list[at + COUNT];
+    put_tree(trees, list, at + DEST);
+    put_used(trees, 0 < count, list, at + S0);
+    put_used(trees, 1 < count, list, at + S1);
+    put_used(trees, 2 < count, list, at + S2);
 }
 
 pub fn tree_list(trees: &[u64], list: &mut [u8])
@@ -162,8 +185,7 @@ pub fn tree_list(trees: &[u64], list: &mut [u8])
     let count = list.len() / STEP_SIZE;
     let mut k: usize = 0;
     while k < count {
-        let s = nth_step(list, k);
-        put_nth_step(list, k, tree_record(trees, s));
+        put_trees(trees, list, STEP_SIZE * k);
         k += 1;
     }
 }

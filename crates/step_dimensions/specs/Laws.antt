@@ -2,3 +2,5 @@
 pub mod Kinds
 pub mod Sources
 pub mod Steps
+pub mod Known
+pub mod Written

@@ -3,4 +3,5 @@ pub mod Rules
 pub mod StepDimensions
 pub mod Steps
 pub mod Answers
+pub mod Known
 pub mod Laws

@@ -19,7 +19,7 @@ pub enum Stepped {
     Refused(Why),
 }
 
-fn larger(a: u16, b: u16) -> u16
+pub fn larger(a: u16, b: u16) -> u16
     ensures { λ r. ⌜ r ≡ max a b ⌝ }
 {
     if a < b { b } else { a }

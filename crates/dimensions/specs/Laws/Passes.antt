@@ -18,6 +18,8 @@ use Rattle.lists.specs.Laws.{record-in}
 use Rattle.step_dimensions.specs.StepDimensions.{Given, stepWith, noted}
 use Rattle.dimensions.specs.Dimensions.{Passed, passed}
 use Rattle.step_dimensions.specs.Answers.{whySays}
+use Rattle.step_dimensions.specs.Known.{notedAt, StepDimIs, WritesDims}
+use Rattle.step_dimensions.specs.Laws.Known.{noted-at}
 use Rattle.dimensions.specs.Answers.{decidedSays, stepTo, listTo, StepWritten, WritesStep, ListWritten, WritesFront, WritesList}
 use Rattle.step_dimensions.specs.declared.source.Why.{Why}
 use Rattle.dimensions.specs.declared.pass.Decided.{Decided}
@@ -75,6 +77,11 @@ step-refused g ts s w e = rw (← e)
 pub step-decided : (g : Given) (ts : List ℕ) (s y : Step) (ts′ : List ℕ) → done y ≡ stepWith g ts s → ts′ ≡ noted ts y → done ts′ ≡ stepTo g ts s
 step-decided g ts s y ts′ e f = rw (← e, f)
 
+pub step-known : (g : Given) (ts : List ℕ) (s : Step) (d : ℕ) (ts′ : List ℕ) → StepDimIs g ts s d → (d ≡ 0 → ⊥) → ts′ ≡ notedAt ts (s .dest) d → done ts′ ≡ stepTo g ts s
+step-known g ts s d ts′ h n e =
+    let z = h n in
+    step-decided g ts s (z .step) ts′ (sym (z .is)) (e ∙ noted-at ts (s .dest) d (z .step) (z .dest))
+
 to-more : (g : Given) (ts l : List ℕ) (k : ℕ) → listTo g ts (stepsOf l (suc k)) ≡ (listTo g ts (stepsOf l k) then λ t. stepTo g t (stepAt l (stepSize * k)))
 unfolding more
 to-more g ts l k = rw (front-more g ts l k) (by (passed g ts (stepsOf l k)))
@@ -124,16 +131,10 @@ decide-end g ts l k ts₁ e h q =
 
 -- ---- writing
 
-pub wrote : (g : Given) (ts l : List ℕ) (k : ℕ) (x y : Step) (ts′ l′ : List ℕ) → x ≡ stepAt l (stepSize * k) → done y ≡ stepWith g ts x → l′ ≡ write l (stepSize * k) (stepBytes y) → ts′ ≡ noted ts y → WritesStep g ts ts′ l l′ k
-wrote g ts l k x y ts′ l′ e f b t s h =
-    let z : y ≡ s = same (f ∙ ap (stepWith g ts) e ∙ h) in
-    record { bytes = b ∙ ap (λ v. write l (stepSize * k) (stepBytes v)) z; temporaries = t ∙ ap (noted ts) z }
-  where
-    same : _≡_ {A = Answer Step} (done y) (done s) → y ≡ s
-    same q = cc
-
-pub wrote-not : (g : Given) (ts l : List ℕ) (k : ℕ) (x : Step) (w : Refusal) → x ≡ stepAt l (stepSize * k) → refused w none ≡ stepWith g ts x → WritesStep g ts ts l l k
-wrote-not g ts l k x w e f s h = never (f ∙ ap (stepWith g ts) e ∙ h)
+pub wrote : (g : Given) (ts l : List ℕ) (k : ℕ) (ts′ l′ : List ℕ) → WritesDims g ts l l′ ts′ (stepSize * k) → WritesStep g ts ts′ l l′ k
+wrote g ts l k ts′ l′ w s h =
+    let z = w s h in
+    record { bytes = z .bytes; temporaries = z .temporaries }
 
 -- the records before k and the one at k
 record Came (g : Given) (ts l : List ℕ) (k : ℕ) (p′ : Passed) : Type 0 where

@@ -1,7 +1,7 @@
 -- Laws of what a reference becomes by the tables: what each way through the code makes.
 -- Assumes nothing.
-use Prim.Native.Nat.{ℕ, _-_}
-use mathlib.Core.Path.{_≡_, sym, _∙_, ap}
+use Prim.Native.Nat.{ℕ, _+_, _-_}
+use mathlib.Core.Path.{_≡_, refl, sym, _∙_, ap}
 use mathlib.Core.Bool.{false}
 use mathlib.Core.List.{List}
 use native.Mathlib.Omega.{arith}
@@ -9,7 +9,11 @@ use lib.ListN.{getD}
 use lib.Dec.{eqb}
 use borrow.Author.Tests.{eq-eqb, ne-eqb}
 use Rattle.kinds.specs.KindBytes as kind
+use Rattle.kinds.specs.Write.{write}
+use Rattle.kinds.specs.BigEndian.{u16Bytes}
+use Rattle.kinds.specs.References.{refAt, refBytes}
 use Rattle.kinds.specs.declared.reference.Reference.{Reference}
+use Rattle.lists.specs.Parts.{Bytes, ref-there, put-p}
 use Rattle.fixing.specs.ProverCode.{ruleKind, ruleId, ruleDim, ruleFor}
 use Rattle.fixing.specs.Machine.{temporaryIn, expressionIn, referenceIn}
 
@@ -59,3 +63,26 @@ module _ (rules cms plain primed : List ℕ) where
   pub reference-other : (r : Reference) → (r .kind ≡ kind.cm → ⊥) → (r .kind ≡ kind.exp → ⊥) → r ≡ referenceIn rules cms plain primed r
   unfolding referenceIn
   reference-other r h k = rw (ne-eqb (r .kind) kind.cm h, ne-eqb (r .kind) kind.exp k)
+
+  -- ---- in place
+  module _ (l : List ℕ) (i : ℕ) where
+    abbrev puts : Reference → List ℕ
+    puts x = write l i (refBytes x)
+
+    pub put-cm :
+        Bytes l → refAt l i .kind ≡ kind.cm → (id : ℕ) → id ≡ refAt l i .id → (p : ℕ) → p ≡ getD cms id 0 → (l₁ : List ℕ) → l₁ ≡ write l (i + 6) (u16Bytes p) →
+        l₁ ≡ puts (referenceIn rules cms plain primed (refAt l i))
+    put-cm b h id is p e l₁ w =
+        let r = refAt l i in
+        let f : p ≡ getD cms (r .id) 0 = e ∙ ap (λ n. getD cms n 0) is in
+        w ∙ put-p l i p b r refl
+        ∙ ap (λ k. puts (record { kind = k; prime = r .prime; id = r .id; dim = r .dim; p = p; «tree_pos» = r .«tree_pos»; extra = r .extra })) h
+        ∙ ap puts (reference-cm r h p f)
+
+    pub put-exp :
+        refAt l i .kind ≡ kind.exp → (r : Reference) → r ≡ refAt l i → (x : Reference) → x ≡ expressionIn rules plain primed r → (l₁ : List ℕ) → l₁ ≡ puts x →
+        l₁ ≡ puts (referenceIn rules cms plain primed (refAt l i))
+    put-exp h r is x e l₁ w = w ∙ ap puts (reference-exp (refAt l i) h x (e ∙ ap (expressionIn rules plain primed) is))
+
+    pub put-other : Bytes l → (refAt l i .kind ≡ kind.cm → ⊥) → (refAt l i .kind ≡ kind.exp → ⊥) → l ≡ puts (referenceIn rules cms plain primed (refAt l i))
+    put-other b h k = sym (ref-there l i b) ∙ ap puts (reference-other (refAt l i) h k)

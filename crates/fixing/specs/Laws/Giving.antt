@@ -55,24 +55,27 @@ module _ (rules : List ℕ) where
     unfolding giveReference
     no-exp h = rw (ne-eqb (r .kind) kind.exp h)
 
-    module _ (h : r .kind ≡ kind.exp) (t : Bool) (q : t ≡ takesTemporary rules (r .id)) where
+    module _ (h : r .kind ≡ kind.exp) (id : ℕ) (is : id ≡ r .id) (t : Bool) (q : t ≡ takesTemporary rules id) where
+      takes : (u : Bool) → t ≡ u → takesTemporary rules (r .id) ≡ u
+      takes u k = ap (takesTemporary rules) (sym is) ∙ sym q ∙ k
+
       pub takes-none : t ≡ false → tables a b n ≡ giveReference rules r (tables a b n)
       unfolding giveReference
       takes-none k =
-          let z : takesTemporary rules (r .id) ≡ false = sym q ∙ k in
+          let z : takesTemporary rules (r .id) ≡ false = takes false k in
           rw (eq-eqb (r .kind) kind.exp h, z)
 
-      pub takes-plain : t ≡ true → r .prime ≡ 0 → (a′ : List ℕ) (n′ : ℕ) → GiveIs a (r .id) n a′ n′ → tables a′ b n′ ≡ giveReference rules r (tables a b n)
+      pub takes-plain : t ≡ true → r .prime ≡ 0 → (a′ : List ℕ) (n′ : ℕ) → GiveIs a id n a′ n′ → tables a′ b n′ ≡ giveReference rules r (tables a b n)
       unfolding giveReference
       takes-plain k p a′ n′ g =
-          let z : takesTemporary rules (r .id) ≡ true = sym q ∙ k in
-          rw (eq-eqb (r .kind) kind.exp h, z, eq-eqb (r .prime) 0 p, g .table, g .counter)
+          let z : takesTemporary rules (r .id) ≡ true = takes true k in
+          rw (eq-eqb (r .kind) kind.exp h, z, eq-eqb (r .prime) 0 p, g .table, g .counter, is)
 
-      pub takes-primed : t ≡ true → (r .prime ≡ 0 → ⊥) → (b′ : List ℕ) (n′ : ℕ) → GiveIs b (r .id) n b′ n′ → tables a b′ n′ ≡ giveReference rules r (tables a b n)
+      pub takes-primed : t ≡ true → (r .prime ≡ 0 → ⊥) → (b′ : List ℕ) (n′ : ℕ) → GiveIs b id n b′ n′ → tables a b′ n′ ≡ giveReference rules r (tables a b n)
       unfolding giveReference
       takes-primed k p b′ n′ g =
-          let z : takesTemporary rules (r .id) ≡ true = sym q ∙ k in
-          rw (eq-eqb (r .kind) kind.exp h, z, ne-eqb (r .prime) 0 p, g .table, g .counter)
+          let z : takesTemporary rules (r .id) ≡ true = takes true k in
+          rw (eq-eqb (r .kind) kind.exp h, z, ne-eqb (r .prime) 0 p, g .table, g .counter, is)
 
   pub used-given : (u : Bool) (r : Reference) (t t′ : Tables) → u ≡ true → t′ ≡ giveReference rules r t → t′ ≡ giveUsed rules u r t
   unfolding giveUsed

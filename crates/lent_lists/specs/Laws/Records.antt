@@ -13,7 +13,7 @@ use Rattle.kinds.specs.declared.step.Step.{Step}
 use Rattle.meaning.specs.Trees.{upTo}
 use Rattle.meaning.specs.Laws.Tests.{and-left}
 use Rattle.lists.specs.Records.{goodReference, goodReferences, goodRecord, goodList}
-use Rattle.lent_lists.specs.Records.{goodUsed, goodLists, runs}
+use Rattle.lent_lists.specs.Records.{goodUsed, goodLists, runsBy, runs}
 
 -- ---- a record, source by source
 
@@ -62,14 +62,16 @@ module _ (first i last : List ℕ) (a : Bool) (ea : a ≡ goodList first) where
 
 -- ---- a step
 
-pub has-it : (x : Step) (b : Bool) → b ≡ isStep (x .op) → b ≡ true → (n : ℕ) → n ≡ sourcesNeeded (x .op) → leb n (x .count) ≡ runs x
-unfolding runs
-has-it x b e h n q =
-    let z : isStep (x .op) ≡ true = sym e ∙ h in
+pub has-it : (o c : ℕ) (b : Bool) → b ≡ isStep o → b ≡ true → (n : ℕ) → n ≡ sourcesNeeded o → leb n c ≡ runsBy o c
+has-it o c b e h n q =
+    let z : isStep o ≡ true = sym e ∙ h in
     rw (z, q)
 
-pub has-not : (x : Step) (b : Bool) → b ≡ isStep (x .op) → b ≡ false → false ≡ runs x
-unfolding runs
-has-not x b e h =
-    let z : isStep (x .op) ≡ false = sym e ∙ h in
+pub has-not : (o c : ℕ) (b : Bool) → b ≡ isStep o → b ≡ false → false ≡ runsBy o c
+has-not o c b e h =
+    let z : isStep o ≡ false = sym e ∙ h in
     rw z
+
+pub runs-by : (x : Step) (b : Bool) → b ≡ runsBy (x .op) (x .count) → b ≡ runs x
+unfolding runs
+runs-by x b e = e

@@ -1,7 +1,7 @@
 -- Laws of rewriting: a reference by the tables, and a list record by record in place.
 -- Assumes nothing.
 use Prim.Native.Nat.{ℕ, zero, suc, _+_, _*_, _-_, _≤_}
-use mathlib.Core.Path.{_≡_, refl, _∙_, ap}
+use mathlib.Core.Path.{_≡_, refl, sym, _∙_, ap}
 use mathlib.Core.Bool.{Bool, true, false}
 use mathlib.Core.List.{List, [], _∷_, _++_}
 use mathlib.Core.Logic.{inr}
@@ -11,10 +11,13 @@ use native.Mathlib.Omega.{arith}
 use lib.ListN.{length, getD}
 use lib.Dec.{ltb}
 use Rattle.kinds.specs.declared.reference.Reference.{Reference}
-use Rattle.kinds.specs.Write.{write, write-none, write-length, write-then}
-use Rattle.kinds.specs.Steps.{stepSize, stepAt, stepBytes, stepsOf, stepsBytes, step-kept, steps-none, steps-more, steps-length, steps-bytes-none, steps-bytes-one, steps-bytes-length, steps-bytes-append}
+use Rattle.kinds.specs.Write.{write, write-none, write-length, write-then, write-next}
+use Rattle.kinds.specs.BigEndian.{u16At, u16Bytes}
+use Rattle.kinds.specs.References.{refAt, refBytes, ref-sized, ref-kept}
+use Rattle.kinds.specs.Steps.{stepSize, stepAt, headBytes, stepBytes, stepsOf, stepsBytes, step-kept, steps-none, steps-more, steps-length, steps-bytes-none, steps-bytes-one, steps-bytes-length, steps-bytes-append}
 use Rattle.kinds.specs.declared.step.Step.{Step}
 use Rattle.lists.specs.Records.{recordCount}
+use Rattle.lists.specs.Parts.{Bytes, ref-there, head-there}
 use Rattle.lent_lists.specs.Records.{usedBy, recordBy, mapped, rewritten}
 
 pub past-the-end : (l : List ℕ) (i : ℕ) → length l ≤ i → 0 ≡ getD l i 0
@@ -88,3 +91,54 @@ module _ (f : Reference → Reference) where
       c ≡ usedBy f (ltb 2 (x .count)) (x .s2) → record { op = x .op; count = x .count; origin = x .origin; dest = d; s0 = a; s1 = b; s2 = c } ≡ recordBy f x
   unfolding recordBy
   record-fixed x d a b c ed ea eb ec = rw (ed, ea, eb, ec)
+
+-- ---- a record in place, part by part
+
+-- a reference after one that was put before it
+after : (l l₁ : List ℕ) (i : ℕ) (r : Reference) (j : ℕ) → l₁ ≡ write l i (refBytes r) → i + 12 ≤ j → refAt l₁ j ≡ refAt l j
+after l l₁ i r j e h = ap (λ (m : List ℕ). refAt m j) e ∙ ref-kept l i (refBytes r) j (inr (omega (arith, ref-sized r)))
+
+module _ (f : Reference → Reference) where
+  pub made-put : (l l₁ : List ℕ) (i : ℕ) (r x : Reference) → r ≡ refAt l i → x ≡ f r → l₁ ≡ write l i (refBytes x) → l₁ ≡ write l i (refBytes (f (refAt l i)))
+  made-put l l₁ i r x er ex e = e ∙ ap (λ y. write l i (refBytes y)) (ex ∙ ap f er)
+
+  pub kept-put : (l : List ℕ) (i : ℕ) → Bytes l → refAt l i ≡ f (refAt l i) → l ≡ write l i (refBytes (f (refAt l i)))
+  kept-put l i b e = sym (ref-there l i b) ∙ ap (λ y. write l i (refBytes y)) e
+
+  pub used-put : (u : Bool) (l l₁ : List ℕ) (i : ℕ) → u ≡ true → l₁ ≡ write l i (refBytes (f (refAt l i))) → l₁ ≡ write l i (refBytes (usedBy f u (refAt l i)))
+  unfolding usedBy
+  used-put u l l₁ i h e = rw h e
+
+  pub unused-put : (u : Bool) (l : List ℕ) (i : ℕ) → u ≡ false → Bytes l → l ≡ write l i (refBytes (usedBy f u (refAt l i)))
+  unfolding usedBy
+  unused-put u l i h b = rw h (sym (ref-there l i b))
+
+  abbrev uses : ℕ → List ℕ → ℕ → ℕ → Reference
+  uses c l k i = usedBy f (ltb k c) (refAt l i)
+
+  pub record-put :
+      (l : List ℕ) (at : ℕ) (l₁ l₂ l₃ l₄ : List ℕ) → Bytes l → l₁ ≡ write l (at + 4) (refBytes (f (refAt l (at + 4))))
+      → l₂ ≡ write l₁ (at + 16) (refBytes (uses (getD l (at + 1) 0) l₁ 0 (at + 16)))
+      → l₃ ≡ write l₂ (at + 28) (refBytes (uses (getD l (at + 1) 0) l₂ 1 (at + 28)))
+      → l₄ ≡ write l₃ (at + 40) (refBytes (uses (getD l (at + 1) 0) l₃ 2 (at + 40)))
+      → l₄ ≡ write l at (stepBytes (recordBy f (stepAt l at)))
+  unfolding recordBy stepAt stepBytes headBytes u16Bytes refBytes
+  record-put l at l₁ l₂ l₃ l₄ b e₁ e₂ e₃ e₄ =
+      let c = getD l (at + 1) 0 in
+      let d = f (refAt l (at + 4)) in
+      let r₂ : refAt l₁ (at + 16) ≡ refAt l (at + 16) = after l l₁ (at + 4) d (at + 16) e₁ (omega arith) in
+      let x = uses c l 0 (at + 16) in
+      let f₂ : l₂ ≡ write l₁ (at + 16) (refBytes x) = e₂ ∙ ap (λ r. write l₁ (at + 16) (refBytes (usedBy f (ltb 0 c) r))) r₂ in
+      let r₃ : refAt l₂ (at + 28) ≡ refAt l (at + 28) = after l₁ l₂ (at + 16) x (at + 28) f₂ (omega arith) ∙ after l l₁ (at + 4) d (at + 28) e₁ (omega arith) in
+      let y = uses c l 1 (at + 28) in
+      let f₃ : l₃ ≡ write l₂ (at + 28) (refBytes y) = e₃ ∙ ap (λ r. write l₂ (at + 28) (refBytes (usedBy f (ltb 1 c) r))) r₃ in
+      let r₄ : refAt l₃ (at + 40) ≡ refAt l (at + 40)
+      = after l₂ l₃ (at + 28) y (at + 40) f₃ (omega arith) ∙ after l₁ l₂ (at + 16) x (at + 40) f₂ (omega arith) ∙ after l l₁ (at + 4) d (at + 40) e₁ (omega arith) in
+      let z = uses c l 2 (at + 40) in
+      let f₄ : l₄ ≡ write l₃ (at + 40) (refBytes z) = e₄ ∙ ap (λ r. write l₃ (at + 40) (refBytes (usedBy f (ltb 2 c) r))) r₄ in
+      let h = headBytes (getD l at 0) c (u16At l (at + 2)) in
+      let g₀ : l ≡ write l at h = sym (head-there l at b) in
+      let g₁ : l₁ ≡ write l at (h ++ refBytes d) = write-next l at h (refBytes d) (at + 4) g₀ e₁ refl in
+      let g₂ : l₂ ≡ write l at ((h ++ refBytes d) ++ refBytes x) = write-next l at (h ++ refBytes d) (refBytes x) (at + 16) g₁ f₂ refl in
+      let g₃ : l₃ ≡ write l at (((h ++ refBytes d) ++ refBytes x) ++ refBytes y) = write-next l at ((h ++ refBytes d) ++ refBytes x) (refBytes y) (at + 28) g₂ f₃ refl in
+      write-next l at (((h ++ refBytes d) ++ refBytes x) ++ refBytes y) (refBytes z) (at + 40) g₃ f₄ refl

@@ -155,7 +155,7 @@ module _ (g : Given) (ts : List ℕ) (s : Step) (n : ℕ) (is : n ≡ sourcesNee
 pub slot-needed : (g : Given) (ts : List ℕ) (n c k : ℕ) (r : Reference) → k < n → k < c → sourceDim g ts r ≡ slotDim g ts n c k r
 slot-needed g ts n c k r h l = rw (lt-ltb k n h, lt-ltb k c l)
 
-nothing-ruled : (g : Given) (ts : List ℕ) → sourceDim g ts nothing ≡ refused Refusal.noRule none
+pub nothing-ruled : (g : Given) (ts : List ℕ) → sourceDim g ts nothing ≡ refused Refusal.noRule none
 unfolding sourceDim ruleNo within
 nothing-ruled g ts = refl
 

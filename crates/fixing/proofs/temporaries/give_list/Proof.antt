@@ -1,7 +1,8 @@
 -- `fixing::temporaries::give_list` meets its contract: the tables are those of the records before k.
 -- Assumes nothing.
+use borrow.Author.Needs.{needs}
 use Prim.Native.Nat.{_≤_, _-_}
-use mathlib.Core.Path.{_≡_}
+use mathlib.Core.Path.{_≡_, refl}
 use native.Mathlib.Omega.{arith}
 use Rattle.kinds.specs.Steps.{stepsOf}
 use Rattle.lists.specs.Records.{recordCount}
@@ -20,20 +21,20 @@ abbrev μ-loop : tie.MeasureT-loop
 loop-holds : tie.Need-loop-holds Inv-loop μ-loop
 loop-holds c = (omega arith, give-begin _ _ _)
 
-nth-step-requires : tie.Need-nth-step-requires Inv-loop μ-loop
-nth-step-requires c κs = record-in (c .before .before .before .before .before .args .list .now) (c .before .before .before .loop .k) (c .before .before .loop-test .taken)
+mul-give-record : tie.Need-mul-give-record Inv-loop μ-loop
+mul-give-record c = omega (arith, record-in (c .before .before .before .before .before .args .list .now) (c .before .before .before .loop .k) (c .before .before .loop-test .taken), c .before .before .before .before .before .good)
 
 give-record-requires : tie.Need-give-record-requires Inv-loop μ-loop
-give-record-requires c κs = tt
+give-record-requires c κs = record-in (c .before .before .before .before .before .args .list .now) (c .before .before .before .loop .k) (c .before .before .loop-test .taken)
 
 add-k : tie.Need-add-k Inv-loop μ-loop
-add-k c = omega (arith, c .before .before .before .before .loop-test .taken, c .before .before .before .before .before .before .before .good)
+add-k c = omega (arith, c .before .before .before .loop-test .taken, c .before .before .before .before .before .before .good)
 
 loop-less : tie.Need-loop-less Inv-loop μ-loop
-loop-less c = omega (arith, c .before .before .before .before .loop-test .taken)
+loop-less c = omega (arith, c .before .before .before .loop-test .taken)
 
 loop-again : tie.Need-loop-again Inv-loop μ-loop
-loop-again c = (omega (arith, c .before .before .before .before .loop-test .taken), give-next _ _ _ _ _ _ (c .before .before .before .before .before .loop .inv .1) _ (c .before .nth-step .ensures) (c .give-record .ensures))
+loop-again c = (omega (arith, c .before .before .before .loop-test .taken), give-next _ _ _ _ _ _ (c .before .before .before .before .loop .inv .1) _ refl (c .give-record .ensures))
 
 returns : tie.Need-returns Inv-loop μ-loop
 returns c = give-end _ _ _ _ _ (c .before .loop .inv .1) (c .before .loop .inv .0) (c .loop-test .left)
@@ -45,7 +46,7 @@ give-list-spec =
     Inv-loop
     μ-loop
     loop-holds
-    nth-step-requires
+    mul-give-record
     give-record-requires
     add-k
     loop-less

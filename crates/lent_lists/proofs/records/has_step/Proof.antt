@@ -12,10 +12,10 @@ sources-needed-requires : tie.Need-sources-needed-requires
 sources-needed-requires c κs = search needs
 
 returns : tie.Need-returns
-returns c = has-it (c .before .before .before .before .args .s) _ (c .before .before .before .is-step .ensures) (c .before .before .if1 .taken) _ (c .before .sources-needed .ensures)
+returns c = has-it (c .before .before .before .args .op) (c .before .before .before .args .count) _ (c .before .before .is-step .ensures) (c .before .if1 .taken) _ (c .sources-needed .ensures)
 
 returns-2 : tie.Need-returns-2
-returns-2 c = has-not (c .before .before .args .s) _ (c .before .is-step .ensures) (c .if1 .left)
+returns-2 c = has-not (c .before .before .args .op) (c .before .before .args .count) _ (c .before .is-step .ensures) (c .if1 .left)
 
 pub has-step-spec : {M : Type 1} → statement M
 has-step-spec = tie.close (tie.spec is-step-requires sources-needed-requires returns returns-2)

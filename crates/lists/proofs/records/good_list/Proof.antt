@@ -1,8 +1,9 @@
 -- `lists::records::good_list` meets its contract: the records before k are well formed.
 -- Assumes nothing.
+use borrow.Author.Needs.{needs}
 use borrow.Author.Tests.{not-true, not-false}
 use Prim.Native.Nat.{_≤_, _-_}
-use mathlib.Core.Path.{_≡_}
+use mathlib.Core.Path.{_≡_, refl}
 use mathlib.Core.Bool.{true}
 use native.Mathlib.Omega.{arith}
 use Rattle.kinds.specs.Steps.{stepsOf}
@@ -23,14 +24,14 @@ returns c = good-cut _ (c .if1 .taken)
 loop-holds : tie.Need-loop-holds Inv-loop μ-loop
 loop-holds c = (omega arith, good-begin _)
 
-nth-step-requires : tie.Need-nth-step-requires Inv-loop μ-loop
-nth-step-requires c κs = record-in (c .before .before .before .before .args .list .now) (c .before .loop .k) (c .loop-test .taken)
+mul-good-record : tie.Need-mul-good-record Inv-loop μ-loop
+mul-good-record c = omega (arith, record-in (c .before .before .before .before .args .list .now) (c .before .loop .k) (c .loop-test .taken), c .before .before .before .before .good)
 
 good-record-requires : tie.Need-good-record-requires Inv-loop μ-loop
-good-record-requires c κs = tt
+good-record-requires c κs = record-in (c .before .before .before .before .args .list .now) (c .before .loop .k) (c .loop-test .taken)
 
 returns-2 : tie.Need-returns-2 Inv-loop μ-loop
-returns-2 c = good-stop _ _ _ (c .before .before .nth-step .ensures) _ (c .before .good-record .ensures) (c .before .before .before .loop-test .taken) (c .before .before .before .before .before .if1 .left) (not-true _ (c .if2 .taken))
+returns-2 c = good-stop _ _ _ refl _ (c .before .good-record .ensures) (c .before .before .loop-test .taken) (c .before .before .before .before .if1 .left) (not-true _ (c .if2 .taken))
 
 add-k : tie.Need-add-k Inv-loop μ-loop
 add-k c = omega arith
@@ -39,7 +40,7 @@ loop-less : tie.Need-loop-less Inv-loop μ-loop
 loop-less c = omega arith
 
 loop-again : tie.Need-loop-again Inv-loop μ-loop
-loop-again c = (omega arith, good-next _ _ _ (c .before .before .nth-step .ensures) _ (c .before .good-record .ensures) (c .before .before .before .before .loop .inv .1) (not-false _ (c .if2 .left)))
+loop-again c = (omega arith, good-next _ _ _ refl _ (c .before .good-record .ensures) (c .before .before .before .loop .inv .1) (not-false _ (c .if2 .left)))
 
 returns-3 : tie.Need-returns-3 Inv-loop μ-loop
 returns-3 c = good-end _ _ (c .before .loop .inv .1) (c .before .loop .inv .0) (c .loop-test .left) (c .before .before .if1 .left)
@@ -52,7 +53,7 @@ good-list-spec =
     μ-loop
     returns
     loop-holds
-    nth-step-requires
+    mul-good-record
     good-record-requires
     returns-2
     add-k

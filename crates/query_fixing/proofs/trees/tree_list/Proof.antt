@@ -1,7 +1,8 @@
 -- `query_fixing::trees::tree_list` meets its contract: the records before k are rewritten, and the others as they were.
 -- Assumes nothing.
+use borrow.Author.Needs.{needs}
 use Prim.Native.Nat.{_≤_, _-_}
-use mathlib.Core.Path.{_≡_}
+use mathlib.Core.Path.{_≡_, refl}
 use native.Mathlib.Omega.{arith}
 use Rattle.kinds.specs.Write.{write}
 use Rattle.lists.specs.Records.{recordCount}
@@ -21,23 +22,20 @@ abbrev μ-loop : tie.MeasureT-loop
 loop-holds : tie.Need-loop-holds Inv-loop μ-loop
 loop-holds c = (omega arith, rewrite-begin _ _)
 
-nth-step-requires : tie.Need-nth-step-requires Inv-loop μ-loop
-nth-step-requires c κs = rewrite-room _ _ _ _ (c .before .before .loop .inv .1) (record-in (c .before .before .before .before .before .args .list .now) (c .before .before .loop .k) (c .before .loop-test .taken))
+mul-put-trees : tie.Need-mul-put-trees Inv-loop μ-loop
+mul-put-trees c = omega (arith, record-in (c .before .before .before .before .before .args .list .now) (c .before .before .loop .k) (c .before .loop-test .taken), c .before .before .before .before .before .good)
 
-tree-record-requires : tie.Need-tree-record-requires Inv-loop μ-loop
-tree-record-requires c κs = tt
-
-put-nth-step-requires : tie.Need-put-nth-step-requires Inv-loop μ-loop
-put-nth-step-requires c κs = rewrite-room _ _ _ _ (c .before .before .before .before .before .loop .inv .1) (record-in (c .before .before .before .before .before .before .before .before .args .list .now) (c .before .before .before .before .before .loop .k) (c .before .before .before .before .loop-test .taken))
+put-trees-requires : tie.Need-put-trees-requires Inv-loop μ-loop
+put-trees-requires c κs = rewrite-room _ _ _ _ (c .before .before .loop .inv .1) (record-in (c .before .before .before .before .before .args .list .now) (c .before .before .loop .k) (c .before .loop-test .taken))
 
 add-k : tie.Need-add-k Inv-loop μ-loop
-add-k c = omega (arith, c .before .before .before .before .before .before .before .loop-test .taken, c .before .before .before .before .before .before .before .before .before .before .before .good)
+add-k c = omega (arith, c .before .before .before .before .loop-test .taken, c .before .before .before .before .before .before .before .before .good)
 
 loop-less : tie.Need-loop-less Inv-loop μ-loop
-loop-less c = omega (arith, c .before .before .before .before .before .before .before .loop-test .taken)
+loop-less c = omega (arith, c .before .before .before .before .loop-test .taken)
 
 loop-again : tie.Need-loop-again Inv-loop μ-loop
-loop-again c = (omega (arith, c .before .before .before .before .before .before .before .loop-test .taken), rewrite-next _ _ _ _ _ (c .before .before .before .before .before .before .before .before .loop .inv .1) _ _ (c .before .before .before .before .before .nth-step .ensures) (c .before .before .before .tree-record .ensures) (c .before .before .put-nth-step .ensures))
+loop-again c = (omega (arith, c .before .before .before .before .loop-test .taken), rewrite-next _ _ _ _ _ (c .before .before .before .before .before .loop .inv .1) _ _ refl refl (c .before .before .put-trees .ensures))
 
 same-length : tie.Need-same-length Inv-loop μ-loop
 same-length c = rewrite-length _ _ _ (c .before .loop .inv .1)
@@ -52,9 +50,8 @@ tree-list-spec =
     Inv-loop
     μ-loop
     loop-holds
-    nth-step-requires
-    tree-record-requires
-    put-nth-step-requires
+    mul-put-trees
+    put-trees-requires
     add-k
     loop-less
     loop-again
