@@ -3,7 +3,7 @@
 use Prim.Native.Nat.{ℕ, _<_}
 use mathlib.Core.Path.{_≡_, refl, sym, _∙_, ap, subst}
 use mathlib.Core.Bool.{Bool, true, false}
-use mathlib.Core.Option.{Option, none}
+use mathlib.Core.Option.{none}
 use mathlib.Core.List.{List, []}
 use lib.ListN.{length}
 use Rattle.meaning.specs.Refusals.{Refusal, Answer, done, refused, _then_}
@@ -45,7 +45,7 @@ use Rattle.constraint_frames.specs.Formed.{inputOf}
 use Rattle.constraint_frames.specs.Unique.{columnsOf}
 use Rattle.constraint_frames.specs.Extension.{Back}
 use Rattle.constraint_frames.specs.Backward.{shaped-few, back-asks}
-use Rattle.constraint_choice.specs.Below.{each-at, some-one}
+use Rattle.constraint_choice.specs.Below.{each-at, some-one, refused-as}
 use Rattle.constraint_choice.specs.Choosing.{questionOf, Contexts, deciding, Accepts, OrMalformed, Chooses, whyOf, Left, Ready, Tells, TellsRead, DecideIs, ReadAsks, AdmittedAsks}
 use Rattle.constraint_choice.specs.declared.answer.Refused.{Refused}
 use Rattle.constraint_choice.specs.declared.answer.Refused.the-variants as why
@@ -111,12 +111,6 @@ module _ {s : List ℕ} {f : frames.Tables} {r : Reading} (fills : Fills s r f) 
         tells = refl;
         back = λ i e. absurd (done-not-refused (sym e ∙ sym h));
       }
-    where
-      refused-as : {A B : Type 0} {i j : Refusal} {o k : Option ℕ} → _≡_ {A = Answer A} (refused i o) (refused j k) → _≡_ {A = Answer B} (refused i o) (refused j k)
-      refused-as {A} {B} {i} {j} {o} {k} e =
-          let a : i ≡ j = cc in
-          let b : o ≡ k = cc in
-          rw (a, b)
 
   pub malformed : {b : Blame} → r ≡ was.Malformed b → (t : Left) → DecideIs s q c t (decided.Refused (why.Malformed b))
   malformed {b} e t = unread (why.Malformed b) (ap (held f) (sym e) ∙ fills .answer) t

@@ -23,6 +23,7 @@ use Rattle.constraint_meaning.specs.Constraint.{Asked}
 use Rattle.constraint_pool.specs.Judging.{judged}
 use Rattle.constraint_frames.specs.Extension.{poolWith}
 use Rattle.constraint_frames.specs.Unique.{columnsOf}
+use Rattle.constraint_choice.specs.Below.{refused-as}
 use Rattle.constraint_choice.specs.Choosing.{contexts, questionOf, deciding, OrMalformed, Chooses, whyOf, Left, Ready, choiceIn, TellsRead, DecideIs}
 use Rattle.constraint_choice.specs.declared.answer.Found.{Found}
 use Rattle.constraint_choice.specs.declared.answer.Refused.{Refused}
@@ -35,7 +36,7 @@ use Rattle.constraint_build.specs.Making.{MakeAsks}
 use Rattle.constraint_build.specs.declared.answer.Made.{Made}
 use Rattle.starkinfo_cp_prover.specs.Polynomial.{Polynomial, generating, Answers, generatedSays, GeneratedIs, Tells, generatedFor, generatedOf, setAfter}
 use Rattle.starkinfo_cp_prover.specs.declared.answer.Generated.{Generated}
-use Rattle.starkinfo_cp_prover.proofs.Lists.{refused-as, make-asks, made-told}
+use Rattle.starkinfo_cp_prover.proofs.Lists.{make-asks, made-told}
 
 -- ---- the answer of both by that of the choice
 

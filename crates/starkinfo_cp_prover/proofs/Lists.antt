@@ -2,15 +2,13 @@
 -- Assumes nothing.
 use Prim.Native.Nat.{ℕ, _+_, _-_, _*_, _≤_, _<_}
 use mathlib.Core.Path.{_≡_, refl, sym, _∙_, ap, subst}
-use mathlib.Core.Bool.{Bool, true, false}
-use mathlib.Core.Option.{Option}
 use mathlib.Core.List.{List}
 use native.Mathlib.Omega.{arith}
 use lib.ListN.{length}
 use lib.Dec.{leb}
 use borrow.Author.Tests.{leb-true}
 use Rattle.kinds.specs.Kinds.{isNodeKind}
-use Rattle.meaning.specs.Refusals.{Refusal, Answer, done, refused, _then_}
+use Rattle.meaning.specs.Refusals.{Answer, done, refused, _then_}
 use Rattle.meaning.specs.Trees.{Acyclic}
 use Rattle.meaning.specs.Laws.Tests.{and-left, and-right, done-same, done-not-refused}
 use Rattle.frames.specs.Nodes.{headOk}
@@ -31,6 +29,7 @@ use Rattle.constraint_meaning.specs.Constraint.{Asked}
 use Rattle.constraint_pool.specs.Whole.{AllBelow}
 use Rattle.constraint_frames.specs.Formed.{all-at}
 use Rattle.constraint_sessions.specs.Larger.{good-larger}
+use Rattle.constraint_choice.specs.Below.{refused-as}
 use Rattle.constraint_choice.specs.Choosing.{Left, Ready, choiceIn, constrainedPool}
 use Rattle.constraint_choice.specs.declared.answer.Found.{Found}
 use Rattle.constraint_build.specs.Both.{Lent, Both, listing, madeSays, Totals, totalsOf}
@@ -53,14 +52,6 @@ rows-fit w l x k m a i h =
     let z : i < length (tabled (Tabling w l x k m) .nodes) = rw (node-count (Tabling w l x k m)) h in
     let n = next-few (node (tabled (Tabling w l x k m)) i) (all-at (tabled (Tabling w l x k m) .nodes) a i z) in
     omega (arith, ap (λ (y : Node). y .next) e, n)
-
--- ---- a refusal, of whichever answer
-
-pub refused-as : {A B : Type 0} {i j : Refusal} {o k : Option ℕ} → _≡_ {A = Answer A} (refused i o) (refused j k) → _≡_ {A = Answer B} (refused i o) (refused j k)
-refused-as {A} {B} {i} {j} {o} {k} e =
-    let a : i ≡ j = cc in
-    let b : o ≡ k = cc in
-    rw (a, b)
 
 -- ---- with a set that was chosen
 
