@@ -45,7 +45,7 @@ use Rattle.constraint_frames.specs.Unique.{columnsOf}
 use Rattle.constraint_lists.specs.Lists.{listSaid, closedIf}
 use Rattle.constraint_build.specs.Both.{Lent, Both}
 use Rattle.starkinfo_cp_prover.specs.Polynomial.{Polynomial, questionOf, chosenBy, generating, OrMalformed, Answers, Runs, asked, Accepts}
-use Rattle.starkinfo_cp_prover.specs.declared.answer.Before.{Before}
+use Rattle.constraint_choice.specs.declared.answer.Before.{Before}
 use Rattle.answers.specs.Ways.{OfPool}
 use Rattle.answers.specs.PolynomialWays as way
 use Rattle.answers.specs.Exact.{both, of-frames, of-pool}

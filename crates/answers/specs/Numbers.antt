@@ -28,7 +28,7 @@ use Rattle.records.specs.declared.PolType.{PolType}
 use Rattle.constraint_frames.specs.Extension.{Question}
 use Rattle.search_meaning.specs.Search.{Choice}
 use Rattle.constraint_build.specs.Both.{Lent}
-use Rattle.starkinfo_cp_prover.specs.declared.answer.Before.{Before}
+use Rattle.constraint_choice.specs.declared.answer.Before.{Before}
 use Rattle.answers.specs.PolynomialWays.{Listed, Chosen, Generated, ConstraintRead}
 use Rattle.answers.specs.ConstraintWays.{MarkWay, CloseWay, Extended, ExtendRead}
 use Rattle.answers.specs.Ways.{OfFrames, OfPool, OfPlan, FreshWay, Served, ServeRead, Built, BuildRead, Ran, Evaluated, EvaluateRead, Mapped, Fixed, Queried, Dimensioned, SectionWay}

@@ -25,7 +25,7 @@ use Rattle.constraint_frames.specs.Extension.{poolWith}
 use Rattle.constraint_lists.specs.Lists.{step3Said, step42nsSaid}
 use Rattle.constraint_build.specs.Both.{Lent, roomBoth}
 use Rattle.starkinfo_cp_prover.specs.Polynomial.{asked, questionOf}
-use Rattle.starkinfo_cp_prover.specs.declared.answer.Before.{Before}
+use Rattle.constraint_choice.specs.declared.answer.Before.{Before}
 use Rattle.answers.specs.Ways.{OfFrames, OfPool}
 use Rattle.answers.specs.ConstraintWays.{withinLimits}
 

@@ -1,3 +1,4 @@
 -- Lemmas over plain variables, which the functions' proofs cite.
-pub mod Commits
-pub mod Makes
+pub mod Fits
+pub mod Firsts
+pub mod Seconds

@@ -15,7 +15,7 @@ use Rattle.constraint_frames.specs.Extension.{Back}
 use Rattle.constraint_build.specs.Both.{Lent}
 use Rattle.constraint_build.specs.declared.answer.Sizes.{Sizes}
 use Rattle.starkinfo_cp_prover.specs.Polynomial.{Polynomial, questionOf, Runs, Told, toldOf, Stands, Accepts}
-use Rattle.starkinfo_cp_prover.specs.declared.answer.Before.{Before}
+use Rattle.constraint_choice.specs.declared.answer.Before.{Before}
 
 abbrev pub before : ℕ → ℕ → ℕ → Before
 before a b c = record { commitments = c; «n_cm1» = a; «n_cm2» = b }

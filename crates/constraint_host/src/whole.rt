@@ -1,5 +1,7 @@
 // `generate_constraint_polynomial` in one call.
 use constraint_build::answer::Sizes;
+use constraint_choice::answer::Asking;
+use constraint_choice::answer::Before;
 use kinds::refusal::BITS;
 use kinds::refusal::CHILD_COUNT;
 use kinds::refusal::COUNTS;
@@ -15,7 +17,6 @@ use kinds::refusal::NOT_THERE;
 use kinds::refusal::SEARCH_KIND;
 use kinds::refusal::VISITS;
 use sets::SET_WORDS;
-use starkinfo_cp_prover::answer::Before;
 use starkinfo_cp_prover::answer::Generated;
 use starkinfo_cp_prover::entry::generate_constraint_polynomial;
 ghost use mathlib.Core.Path.{_≡_};
@@ -160,19 +161,22 @@ pub extern "C" fn enonkasse_constraint(
 ) -> u8
     ensures { λ r. ⌜ ConstraintNumbered (now (frames .entry)) (asked (now (identities .entry)) vc «n_bits» «n_bits_ext» limit (before «n_cm1» «n_cm2» commitments)) (lent (now (context .entry)) (now (list .entry)) (lists (now (first .entry)) (now (i .entry)) (now (last .entry)))) (lent (now («context_2ns» .entry)) (now («list_2ns» .entry)) (lists (now («first_2ns» .entry)) (now («i_2ns» .entry)) (now («last_2ns» .entry)))) (now (out .entry)) (now (chosen .entry)) (now (found .entry)) (now (totals .entry)) (lent (now (context .exit)) (now (list .exit)) (lists (now (first .exit)) (now (i .exit)) (now (last .exit)))) (lent (now («context_2ns» .exit)) (now («list_2ns» .exit)) (lists (now («first_2ns» .exit)) (now («i_2ns» .exit)) (now («last_2ns» .exit)))) (now (out .exit)) (now (chosen .exit)) (now (found .exit)) (now (totals .exit)) r ⌝ }
 {
-    let c = Before {
+    let before = Before {
         commitments,
         n_cm1,
         n_cm2,
     };
-    let r = generate_constraint_polynomial(
-        frames,
-        identities,
+    let a = Asking {
         vc,
         n_bits,
         n_bits_ext,
         limit,
-        c,
+        before,
+    };
+    let r = generate_constraint_polynomial(
+        frames,
+        identities,
+        a,
         context,
         list,
         first,

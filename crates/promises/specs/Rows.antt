@@ -45,7 +45,7 @@ use Rattle.constraint_frames.specs.Extension.{asking}
 use Rattle.constraint_host.specs.Numbered.{MarkNumbered, CloseNumbered, PoolNumbered}
 use Rattle.constraint_build.specs.Both.{Lent}
 use Rattle.starkinfo_cp_prover.specs.Polynomial.{asked}
-use Rattle.starkinfo_cp_prover.specs.declared.answer.Before.{Before}
+use Rattle.constraint_choice.specs.declared.answer.Before.{Before}
 use Rattle.constraint_host.specs.Whole.{ConstraintNumbered}
 use Rattle.answers.specs.PolynomialWays.{ConstraintWay}
 use Rattle.answers.specs.ExactPolynomial.{of-constraint}

@@ -1,6 +1,6 @@
--- What was read, judged: both contexts, the pool, and the answer to an admitted one. Over plain variables.
+-- The whole answer from what was decided: a refusal, or both lists of the set that was chosen. Over plain variables.
 -- Assumes nothing.
-use Prim.Native.Nat.{ℕ, _≤_, _<_}
+use Prim.Native.Nat.{ℕ, _-_, _≤_}
 use mathlib.Core.Path.{_≡_, refl, sym, _∙_, ap, subst}
 use mathlib.Core.Bool.{Bool, true, false}
 use mathlib.Core.Option.{Option, none}
@@ -8,179 +8,162 @@ use mathlib.Core.List.{List, []}
 use lib.ListN.{length}
 use Rattle.meaning.specs.Refusals.{Refusal, Answer, done, refused, _then_}
 use Rattle.meaning.specs.Laws.Tests.{done-same, done-not-refused}
-use Rattle.frames.specs.Order.{Input, blameAnswer}
-use Rattle.frames.specs.Tables as frames
-use Rattle.frames.specs.Tables.{inputIn}
-use Rattle.frames.specs.Reading.{reading, held, Fills}
-use Rattle.frames.specs.Limits.{read-within}
-use Rattle.frames.specs.Written.{WellFormed}
-use Rattle.frames.specs.declared.count.Counts.{Counts}
-use Rattle.frames.specs.declared.count.Blame.{Blame}
-use Rattle.frames.specs.declared.count.Reading.{Reading}
-use Rattle.frames.specs.declared.count.Reading.the-variants as was
+use Rattle.frames.specs.Order.{expressionLimit, Input}
+use Rattle.frames.specs.Reading.{reading}
 use Rattle.pool.specs.Pool.{Pool}
 use Rattle.pool.specs.Trees.{forest}
-use Rattle.pool.specs.Shaped.{Shaped}
 use Rattle.pool.specs.Verdict.{Verdict}
-use Rattle.pool.specs.Exactly.{exactly-0}
-use Rattle.pool.specs.Admitting.{Admits, Fits, verdictSays}
-use Rattle.pool.specs.declared.admit.Admission.{Admission}
-use Rattle.pool.specs.declared.admit.Verdict as admit
+use Rattle.pool.specs.Numbered.{poolOf}
 use Rattle.pool.specs.Tabled.{tabled}
 use Rattle.pool.specs.Ranking.{Tabling}
-use Rattle.pool.specs.Numbered.{poolOf}
-use Rattle.pool.specs.Laws.Tabled.{node-count, expression-count}
-use Rattle.pool.specs.Laws.Forest.{forest-size}
-use Rattle.degree_search.proofs.Questions.{judged-as}
-use Rattle.context.specs.Context as context
-use Rattle.context.specs.Context.{Exactly}
+use Rattle.search_meaning.specs.Search.{Choice, search}
+use Rattle.sets.specs.Members.{members}
+use Rattle.context.specs.Context.{Exactly, Good}
 use Rattle.constraint_meaning.specs.Constraint.{Asked}
-use Rattle.pool_frames.specs.Writable.{read-formed}
-use Rattle.constraint_frames.specs.Formed.{inputOf}
-use Rattle.constraint_meaning.specs.Members.{members-there, identities-there}
-use Rattle.constraint_pool.specs.Whole.{AllBelow}
-use Rattle.constraint_pool.specs.Sizes.{WholeSizeAsks}
-use Rattle.constraint_pool.specs.Judging.{judged as judged-by}
-use Rattle.constraint_pool.proofs.Verdicts.{constraint-asks}
-use Rattle.search_meaning.specs.Search.{Choice}
+use Rattle.constraint_pool.specs.Judging.{judged}
+use Rattle.constraint_frames.specs.Extension.{poolWith}
 use Rattle.constraint_frames.specs.Unique.{columnsOf}
-use Rattle.constraint_frames.specs.Extension.{Back}
-use Rattle.constraint_frames.specs.Backward.{shaped-few, back-asks}
-use Rattle.constraint_build.specs.Both.{Lent}
-use Rattle.starkinfo_cp_prover.specs.Meant.{each-at}
-use Rattle.starkinfo_cp_prover.specs.Polynomial.{Polynomial, questionOf, Accepts, generating, OrMalformed, Answers, Runs, generatedSays, Tells, GeneratedIs, AdmittedAsks, ReadAsks}
+use Rattle.constraint_choice.specs.Below.{refused-as}
+use Rattle.constraint_choice.specs.Choosing.{contexts, questionOf, deciding, OrMalformed, Chooses, whyOf, Left, Ready, choiceIn, TellsRead, DecideIs}
+use Rattle.constraint_choice.specs.declared.answer.Found.{Found}
+use Rattle.constraint_choice.specs.declared.answer.Refused.{Refused}
+use Rattle.constraint_choice.specs.declared.answer.Refused.the-variants as why
+use Rattle.constraint_choice.specs.declared.answer.Decided.{Decided}
+use Rattle.constraint_choice.specs.declared.answer.Decided.the-variants as decided
+use Rattle.constraint_build.specs.Both.{Lent, Both, listing}
+use Rattle.constraint_build.specs.Both as both
+use Rattle.constraint_build.specs.Making.{MakeAsks}
+use Rattle.constraint_build.specs.declared.answer.Made.{Made}
+use Rattle.starkinfo_cp_prover.specs.Polynomial.{Polynomial, generating, Answers, generatedSays, GeneratedIs, Tells, generatedFor, generatedOf, setAfter}
 use Rattle.starkinfo_cp_prover.specs.declared.answer.Generated.{Generated}
-use Rattle.starkinfo_cp_prover.specs.declared.answer.Generated.the-variants as told
-use Rattle.starkinfo_cp_prover.proofs.Founds.{refused-as, some-one}
+use Rattle.starkinfo_cp_prover.proofs.Lists.{make-asks, made-told}
 
-module _ {w l x : List ℕ} {k : Counts} (a : ReadAsks w l x k) (q : Asked) (u v : Lent) (out t : List ℕ) where
-  abbrev P : Pool
-  P = tabled (Tabling w l x (k .nodes) (k .expressions))
+-- ---- the answer of both by that of the choice
 
-  -- what was read is answered so, and everything lent after it
-  abbrev Told : Lent → Lent → List ℕ → List ℕ → Generated → Type 0
-  Told u′ v′ out′ t′ r = (z : Answer Polynomial) × Answers P q u v (length out) z × Tells z u v out t u′ v′ out′ t′ r
+module _ (p : Pool) (a : Asked) (u v : Lent) (room : ℕ) where
+  -- what follows from a choice
+  abbrev pub listed : Choice → Answer Polynomial
+  listed x =
+      let q = poolWith p (questionOf a x) in
+      listing q (length (p .expressions)) (x .set) u v room then λ b. done (record { choice = x; pool = q; lists = b })
 
-  expressions-are : length (P .expressions) ≡ k .expressions
-  expressions-are = expression-count (Tabling w l x (k .nodes) (k .expressions))
+  then-listed : {A B C : Type 0} (j : Answer (Unit {0})) (x : A) (l : Answer B) (f : B → Answer C) (g : A → Answer C) → (l then f) ≡ g x → ((j then λ _. l) then f) ≡ ((j then λ _. done x) then g)
+  then-listed (done tt) x l f g e = e
+  then-listed (refused k o) x l f g e = refl
 
-  pub admit-fits : Fits [] (k .nodes) (k .expressions)
-  admit-fits = record { nodes = a .nodes; expressions = a .expressions; tabulated = λ u z. absurd z }
+  generating-is : generating p a u v room ≡ (deciding p a then λ x. listed x)
+  generating-is = go (search (forest p) (a .identities) (a .vc) (a .nBits) (a .nBitsExt) (a .limit))
+    where
+      J : Choice → Answer (Unit {0})
+      J x = judged (forest p) (length (p .nodes)) (a .vc) (columnsOf a (x .q)) (a .identities) (x .set)
 
-  -- of the pool's own number of expressions
-  own : {g : Bool} {y : List ℕ} {room : ℕ} → Exactly g (context.Good y (k .expressions) room) → Exactly g (context.Good y (length (P .expressions)) room)
-  own {g} {y} {room} h = subst (λ i. Exactly g (context.Good y i room)) (sym expressions-are) h
+      go : (z : Answer Choice) →
+          (z then λ x. (J x then λ _. listing (poolWith p (questionOf a x)) (length (p .expressions)) (x .set) u v room) then λ b. done (record { choice = x; pool = poolWith p (questionOf a x); lists = b }))
+          ≡ ((z then λ x. J x then λ _. done x) then λ x. listed x)
+      go (done x) =
+          then-listed (J x) x (listing (poolWith p (questionOf a x)) (length (p .expressions)) (x .set) u v room)
+          (λ b. done (record { choice = x; pool = poolWith p (questionOf a x); lists = b })) (λ x. listed x) refl
+      go (refused k o) = refl
 
-  module _ {g : Bool} (gh : Exactly g (context.Good (u .context) (k .expressions) (length (u .list)))) where
-    orMalformed : (b : Bool) → g ≡ b → (z : Answer Polynomial) (R : Type 0) → OrMalformed b z R → OrMalformed g z R
-    orMalformed b e z R h = subst (λ c. OrMalformed c z R) (sym e) h
+  abbrev Ctx : Answer Choice → Type 0
+  Ctx z = Chooses p a (contexts (u .context) (length (u .list)) (v .context) (length (v .list))) z
 
-    pub bad-first : g ≡ false → Told u v out t told.BadContext
-    bad-first e = (refused Refusal.malformed none, (g, own gh, orMalformed false e _ _ refl), record { says = refl; stands = (refl, refl, refl, refl) })
+  onward : (y : Answer (Unit {0})) → ((y then λ _. deciding p a) then λ x. listed x) ≡ (y then λ _. generating p a u v room)
+  onward (done tt) = sym generating-is
+  onward (refused k o) = refl
 
-    module _ (ge : g ≡ true) {h : Bool} (hh : Exactly h (context.Good (v .context) (k .expressions) (length (v .list)))) where
-      rest : (z : Answer Polynomial) (b : Bool) → h ≡ b → OrMalformed b z ((y : Answer (Unit {0})) × Verdict P [] y × (z ≡ (y then λ _. generating P q u v (length out)))) → Answers P q u v (length out) z
-      rest z b e o =
-          (g, own gh, orMalformed true ge z _ (h, own hh, subst (λ c. OrMalformed c z ((y : Answer (Unit {0})) × Verdict P [] y × (z ≡ (y then λ _. generating P q u v (length out))))) (sym e) o))
+  malformed-then : (g : Bool) (z : Answer Choice) (R S : Type 0) → (R → S) → OrMalformed g z R → OrMalformed g (z then λ x. listed x) S
+  malformed-then true z R S f h = f h
+  malformed-then false z R S f h = ap (λ y. y then λ x. listed x) h
 
-      pub bad-second : h ≡ false → Told u v out t told.BadContext
-      bad-second e = (refused Refusal.malformed none, rest _ false e refl, record { says = refl; stands = (refl, refl, refl, refl) })
+  answers : (z : Answer Choice) → Ctx z → Answers p a u v room (z then λ x. listed x)
+  answers z h =
+      (h .0, h .1, malformed-then (h .0) z _ _ (λ i. (i .0, i .1, malformed-then (i .0) z _ _ (λ y. (y .0, y .1, ap (λ w. w then λ x. listed x) (y .2) ∙ onward (y .0))) (i .2))) (h .2))
 
-      module _ (he : h ≡ true) where
-        pub judged : {y : List ℕ} {d : Admission} → Admits (Tabling w l x (k .nodes) (k .expressions)) y d → y ≡ [] → {o : admit.Verdict} → d .verdict ≡ o → Verdict P [] (verdictSays o)
-        judged = judged-as w x k (record { nodes = a .nodes; expressions = a .expressions }) l
+  -- a choice was made in contexts that are good
+  goods : (x : Choice) (z : Answer Choice) → z ≡ done x → Ctx z → Good (u .context) (length (p .expressions)) (length (u .list)) × Good (v .context) (length (p .expressions)) (length (v .list))
+  goods x z e h = first (h .0) (h .1) (h .2)
+    where
+      second : Good (u .context) (length (p .expressions)) (length (u .list)) → (h : Bool) → Exactly h (Good (v .context) (length (p .expressions)) (length (v .list))) →
+          OrMalformed h z ((y : Answer (Unit {0})) × Verdict p [] y × (z ≡ (y then λ _. deciding p a))) →
+          Good (u .context) (length (p .expressions)) (length (u .list)) × Good (v .context) (length (p .expressions)) (length (v .list))
+      second c true i h = (c, i .0 refl)
+      second c false i h = absurd (done-not-refused (sym e ∙ h))
 
-        pub refused-pool : {r : Refusal} {o : Option ℕ} → Verdict P [] (refused r o) → (d : Generated) → generatedSays d ≡ refused r o → Told u v out t d
-        refused-pool {r} {o} y d f = (refused r o, rest _ true he (refused r o, y, refl), record { says = f; stands = (refl, refl, refl, refl) })
+      first : (g : Bool) → Exactly g (Good (u .context) (length (p .expressions)) (length (u .list))) →
+          OrMalformed g z ((h : Bool) × Exactly h (Good (v .context) (length (p .expressions)) (length (v .list))) × OrMalformed h z ((y : Answer (Unit {0})) × Verdict p [] y × (z ≡ (y then λ _. deciding p a)))) →
+          Good (u .context) (length (p .expressions)) (length (u .list)) × Good (v .context) (length (p .expressions)) (length (v .list))
+      first true i h = second (i .0 refl) (h .0) (h .1) (h .2)
+      first false i h = absurd (done-not-refused (sym e ∙ h))
 
-        module _ (y : Verdict P [] (done tt)) where
-          pub admitted-asks : AdmittedAsks w l x u v (k .nodes) (k .expressions)
-          admitted-asks =
-              let s = exactly-0 P (done tt) y .0 refl in
-              record {
-                shaped = s .0;
-                acyclic = s .1;
-                formed = a .formed (s .0);
-                nodes = a .nodes;
-                expressions = a .expressions;
-                wide = a .wide;
-                good = gh .0 ge;
-                good-2ns = hh .0 he;
-              }
+-- ---- what was decided
 
-          pub admitted : {u′ v′ : Lent} {out′ t′ : List ℕ} {r : Generated} → Tells (generating P q u v (length out)) u v out t u′ v′ out′ t′ r → Told u′ v′ out′ t′ r
-          admitted h = (generating P q u v (length out), rest _ true he (done tt, y, refl), h)
+says-why : (r : Refused) → generatedSays (generatedFor r) ≡ refused (whyOf r .kind) (whyOf r .node)
+says-why (why.Malformed b) = refl
+says-why (why.Limit b) = refl
+says-why why.BadContext = refl
+says-why (why.ChildCount i) = refl
+says-why (why.NotThere i) = refl
+says-why why.Lost = refl
+says-why (why.Cycle i) = refl
+says-why why.NoIdentity = refl
+says-why why.Bits = refl
+says-why why.BadKind = refl
+says-why why.OverLimit = refl
+says-why why.NoSet = refl
+says-why why.NoQuotient = refl
+says-why why.Full = refl
+says-why why.Counts = refl
 
--- ---- of what was read
-
-module _ {s : List ℕ} {f : frames.Tables} {r : Reading} (fills : Fills s r f) (q : Asked) (v16 : q .vc < 65536) (u v : Lent) (out t : List ℕ) where
-  unread : {k : Refusal} {o : Option ℕ} {d : Generated} → refused k o ≡ reading s → generatedSays d ≡ refused k o → GeneratedIs s q u v out t u v out t d
-  unread {k} {o} {d} h g =
+module _ {s : List ℕ} {a : Asked} (u v : Lent) {t : Left} {r : Decided} (d : DecideIs s a (contexts (u .context) (length (u .list)) (v .context) (length (v .list))) t r) (out w : List ℕ) where
+  pub not-chosen : {e : Refused} → r ≡ decided.Refused e → {g : Generated} → g ≡ generatedFor e → GeneratedIs s a u v out w u v out w g
+  not-chosen {e} h {g} q =
+      let z : d .answer ≡ refused (whyOf e .kind) (whyOf e .node) = subst (TellsRead s a (d .answer) t) h (d .tells) in
       record {
-        answer = refused k o;
-        runs = record { unread = λ k o e. refused-as (h ∙ e); judged = λ i e. absurd (done-not-refused (sym e ∙ sym h)) };
-        tells = record { says = g; stands = (refl, refl, refl, refl) };
-        back = λ i e. absurd (done-not-refused (sym e ∙ sym h));
+        answer = refused (whyOf e .kind) (whyOf e .node);
+        runs = record {
+          unread = λ k o i. refused-as (sym z ∙ d .unread k o i);
+          judged = λ i read.
+              subst (Answers (poolOf i) a u v (length out)) (ap (λ y. y then λ x. listed (poolOf i) a u v (length out) x) z) (answers (poolOf i) a u v (length out) (d .answer) (d .judged i read));
+        };
+        tells = record { says = ap generatedSays q ∙ says-why e; stands = (refl, refl, refl, refl) };
+        back = d .back;
       }
 
-  pub malformed : {b : Blame} → r ≡ was.Malformed b → GeneratedIs s q u v out t u v out t (told.Malformed b)
-  malformed e = unread (ap (held f) (sym e) ∙ fills .answer) refl
+  module _ {f : Found} (h : r ≡ decided.Chosen f) where
+    chosen : (i : Input) × (reading s ≡ done i) × Ready (poolOf i) a (d .answer) t f
+    chosen = subst (TellsRead s a (d .answer) t) h (d .tells)
 
-  pub limit : {b : Blame} → r ≡ was.Full b → GeneratedIs s q u v out t u v out t (told.Limit b)
-  limit e = unread (ap (held f) (sym e) ∙ fills .answer) refl
+    abbrev p : Pool
+    p = poolOf (chosen .0)
 
-  module _ {k : Counts} (e : r ≡ was.Read k) where
-    read-is : done (inputIn f k) ≡ reading s
-    read-is = ap (held f) (sym e) ∙ fills .answer
+    fit : Good (u .context) (length (p .expressions)) (length (u .list)) × Good (v .context) (length (p .expressions)) (length (v .list))
+    fit = goods p a u v (length out) (choiceIn t f) (d .answer) (chosen .2 .chose) (d .judged (chosen .0) (chosen .1))
 
-    abbrev R : Pool
-    R = tabled (Tabling (f .nodes) (f .literals) (f .expressions) (k .nodes) (k .expressions))
+    pub lists-ask : (ms : List ℕ) → ms ≡ members (t .set) → length ms ≤ expressionLimit → MakeAsks (t .nodes) (t .literals) (t .expressions) ms u v (f .nodes) (f .expressions)
+    lists-ask ms e few = make-asks (chosen .2) u v ms e few (fit .0) (fit .1)
 
-    pool-is : poolOf (inputIn f k) ≡ R
-    unfolding inputIn tabled
-    pool-is = refl
+    abbrev A : Answer Polynomial
+    A = listed p a u v (length out) (choiceIn t f)
 
-    formed : Shaped R → WellFormed (inputOf R)
-    unfolding inputIn tabled
-    formed a = read-formed s (inputIn f k) (sym read-is) (shaped-few R a)
+    answer-is : (d .answer then λ x. listed p a u v (length out) x) ≡ A
+    answer-is = ap (λ y. y then λ x. listed p a u v (length out) x) (chosen .2 .chose)
 
-    pub read-asks : ReadAsks (f .nodes) (f .literals) (f .expressions) k
-    read-asks =
-        let z = read-within s f k read-is in
+    pub all-told :
+        {ms : List ℕ} → ms ≡ members (t .set) → {u′ v′ : Lent} {out′ : List ℕ} {y : Made} →
+        both.Tells (tabled (Tabling (t .nodes) (t .literals) (t .expressions) (f .nodes) (f .expressions)))
+        (listing (tabled (Tabling (t .nodes) (t .literals) (t .expressions) (f .nodes) (f .expressions))) (f .expressions - 1) ms u v (length out)) u v out u′ v′ out′ y →
+        {w′ : List ℕ} → w′ ≡ setAfter y (t .set) w → {g : Generated} → g ≡ generatedOf y (f .q) (f .visits) → GeneratedIs s a u v out w u′ v′ out′ w′ g
+    all-told {ms} e {u′} {v′} {out′} {y} m {w′} i {g} q =
+        let told = made-told (chosen .2) u v out w u′ v′ out′ e m in
         record {
-          nodes = z .nodes;
-          expressions = z .expressions;
-          wide = record { nodes = fills .sized .nodes; literals = fills .sized .literals; expressions = fills .sized .expressions };
-          formed = formed;
-        }
-
-    back-in : Verdict R [] (done tt) → (x : Choice) → Accepts R q x → Back R (questionOf q x)
-    back-in y x o =
-        let a = exactly-0 R (done tt) y .0 refl in
-        let size : length (forest R) ≡ k .expressions = forest-size R ∙ expression-count (Tabling (f .nodes) (f .literals) (f .expressions) (k .nodes) (k .expressions)) in
-        let ids = subst (λ n. AllBelow n (q .identities)) size (each-at (length (forest R)) (q .identities) (identities-there (forest R) (q .limit) (q .identities) (q .vc) (q .nBits) (q .nBitsExt) x (o .chose))) in
-        let set = subst (λ n. AllBelow n (x .set)) size (each-at (length (forest R)) (x .set) (members-there (forest R) (q .limit) (q .identities) (q .vc) (q .nBits) (q .nBitsExt) x (o .chose))) in
-        let whole : WholeSizeAsks (f .nodes) (f .literals) (f .expressions) (q .identities) (x .set) (k .nodes) (k .expressions) = record {
-          members = record { shaped = a .0; nodes = read-asks .nodes; expressions = read-asks .expressions; there = set };
-          some = some-one (forest R) (q .identities) (q .vc) (q .nBits) (q .nBitsExt) (q .limit) x (o .chose);
-        } in
-        let fine : judged-by (forest R) (k .nodes) (q .vc) (columnsOf q (x .q)) (q .identities) (x .set) ≡ done tt =
-        ap (λ n. judged-by (forest R) n (q .vc) (columnsOf q (x .q)) (q .identities) (x .set)) (sym (node-count (Tabling (f .nodes) (f .literals) (f .expressions) (k .nodes) (k .expressions)))) ∙ o .fine in
-        back-asks (f .nodes) (f .literals) (f .expressions) (q .identities) (x .set) (k .nodes) (k .expressions) (q .vc) v16 (columnsOf q (x .q))
-        (constraint-asks whole (columnsOf q (x .q)) (q .vc) ids (sym fine)) (formed (a .0)) (a .1)
-
-    pub read :
-        {u′ v′ : Lent} {out′ t′ : List ℕ} {d : Generated} → (z : Answer Polynomial) × Answers R q u v (length out) z × Tells z u v out t u′ v′ out′ t′ d →
-        GeneratedIs s q u v out t u′ v′ out′ t′ d
-    read g =
-        record {
-          answer = g .0;
+          answer = A;
           runs = record {
-            unread = λ k o z. absurd (done-not-refused (read-is ∙ z));
-            judged = λ i z. subst (λ p. Answers p q u v (length out) (g .0)) (sym pool-is ∙ ap poolOf (done-same _ _ (read-is ∙ z))) (g .1);
+            unread = λ k o z. absurd (done-not-refused (sym (chosen .1) ∙ z));
+            judged = λ j z.
+                let k : p ≡ poolOf j = ap poolOf (done-same (chosen .0) j (sym (chosen .1) ∙ z)) in
+                subst (λ x. Answers x a u v (length out) A) k (subst (Answers p a u v (length out)) answer-is (answers p a u v (length out) (d .answer) (d .judged (chosen .0) (chosen .1))));
           };
-          tells = g .2;
-          back = λ i z y x o.
-              let e = sym pool-is ∙ ap poolOf (done-same _ _ (read-is ∙ z)) in
-              subst (λ p. Back p (questionOf q x)) e (back-in (subst (λ p. Verdict p [] (done tt)) (sym e) y) x (subst (λ p. Accepts p q x) (sym e) o));
+          tells = subst (λ (x : Generated). Tells A u v out w u′ v′ out′ w′ x) (sym q) (subst (λ (x : List ℕ). Tells A u v out w u′ v′ out′ x (generatedOf y (f .q) (f .visits))) (sym i) told);
+          back = d .back;
         }

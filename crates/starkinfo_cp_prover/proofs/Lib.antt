@@ -1,4 +1,3 @@
 -- Lemmas over plain variables, which the functions' proofs cite.
-pub mod Chosens
-pub mod Founds
 pub mod Entries
+pub mod Lists

@@ -2,17 +2,16 @@
 -- `meaning`, it is refused where the definition refuses, with its number, or where there is no room (9); else the definition makes it, and what stands in the lists and in
 -- the contexts after it is what it makes.
 -- Assumes nothing.
-use Prim.Native.Nat.{ℕ, zero, suc, _+_, _≤_, _<_}
+use Prim.Native.Nat.{ℕ, _+_, _≤_}
 use mathlib.Core.Path.{_≡_, refl, sym, _∙_, ap, subst}
 use mathlib.Core.Bool.{Bool, true, false, cond}
 use mathlib.Core.Option.{Option, none}
 use mathlib.Core.Logic.{_⊎_, inl, inr}
 use mathlib.Core.List.{List, [], _∷_}
 use native.Mathlib.Omega.{arith}
-use native.Mathlib.Nat.{not-suc-le-zero, le-of-suc-le-suc}
 use lib.ListN.{length}
 use Rattle.meaning.specs.Refusals.{Refusal, Answer, done, refused, _then_}
-use Rattle.meaning.specs.Trees.{Forest, Each}
+use Rattle.meaning.specs.Trees.{Forest}
 use Rattle.meaning.specs.Generation.{State}
 use Rattle.meaning.specs.Laws.Tests.{then-done, done-same, done-not-refused}
 use Rattle.frames.specs.Order.{expressionLimit, Input}
@@ -36,19 +35,13 @@ use Rattle.constraint_frames.specs.Extension.{poolWith, Back}
 use Rattle.constraint_frames.specs.Unique.{columnsOf, made-judged}
 use Rattle.constraint_frames.proofs.Extending.{judged-passed}
 use Rattle.constraint_lists.specs.Lists.{step3Said, step42nsSaid, Written}
+use Rattle.constraint_choice.specs.Below.{each-at}
 use Rattle.constraint_build.specs.Both.{Lent, Both, roomBoth, fitting, listing, After}
 use Rattle.constraint_sessions.specs.Stood.{Stood}
 use Rattle.constraint_sessions.specs.Both.{Held, madeOf, first-refused, second-refused, both-stood}
 use Rattle.starkinfo_cp_prover.specs.Polynomial.{Polynomial, questionOf, constrained, chosenBy, generating, Accepts, Answers, Stands, GeneratedIs}
 use Rattle.starkinfo_cp_prover.specs.Unique.{one-answers}
 use Rattle.starkinfo_cp_prover.specs.declared.answer.Generated.{Generated}
-
--- ---- lists
-
-pub each-at : (m : ℕ) (es : List ℕ) → Each (λ e. e < m) es → AllBelow m es
-each-at m [] h k g = absurd (not-suc-le-zero g)
-each-at m (e ∷ es) h zero g = h .0
-each-at m (e ∷ es) h (suc k) g = each-at m es (h .1) k (le-of-suc-le-suc g)
 
 -- ---- answers
 

@@ -1,24 +1,11 @@
 // What is answered to frames, identities and two contexts.
 use constraint_build::answer::Made;
 use constraint_build::answer::Sizes;
+use constraint_choice::answer::Refused;
 use frames::count::Blame;
 use sets::SET_WORDS;
 ghost use mathlib.Core.Path.{_≡_};
-ghost use Rattle.starkinfo_cp_prover.specs.Polynomial.{generatedOf, setAfter};
-
-// nCommitments, n_cm1 and n_cm2 as they were.
-pub struct Before {
-    pub commitments: usize,
-    pub n_cm1: usize,
-    pub n_cm2: usize,
-}
-
-// With a set that was chosen: 9 of the limits, 11, or what making the lists answers.
-pub enum Chosen {
-    Full,
-    Counts,
-    Made(Made),
-}
+ghost use Rattle.starkinfo_cp_prover.specs.Polynomial.{generatedFor, generatedOf, setAfter};
 
 // The quotient's degree, the visits, the sizes of the lists and of the frames; or the refusal with the node to blame.
 pub enum Generated {
@@ -46,41 +33,56 @@ pub enum Generated {
     },
 }
 
-// After a search that gave q in so many visits.
-pub fn tell(r: Chosen, q: u64, visits: u64) -> Generated
-    ensures { λ g. ⌜ g ≡ generatedOf r q visits ⌝ }
+// Nothing is chosen.
+pub fn refuse(r: Refused) -> Generated
+    ensures { λ g. ⌜ g ≡ generatedFor r ⌝ }
 {
     match r {
-        Chosen::Full => Generated::Full,
-        Chosen::Counts => Generated::Counts,
-        Chosen::Made(m) => match m {
-            Made::Lost => Generated::Lost,
-            Made::DoublePrime(i) => Generated::DoublePrime(i),
-            Made::Full => Generated::Full,
-            Made::Done { sizes, bytes } => Generated::Done {
-                q,
-                visits,
-                sizes,
-                bytes,
-            },
+        Refused::Malformed(b) => Generated::Malformed(b),
+        Refused::Limit(b) => Generated::Limit(b),
+        Refused::BadContext => Generated::BadContext,
+        Refused::ChildCount(i) => Generated::ChildCount(i),
+        Refused::NotThere(i) => Generated::NotThere(i),
+        Refused::Lost => Generated::Lost,
+        Refused::Cycle(i) => Generated::Cycle(i),
+        Refused::NoIdentity => Generated::NoIdentity,
+        Refused::Bits => Generated::Bits,
+        Refused::BadKind => Generated::BadKind,
+        Refused::OverLimit => Generated::OverLimit,
+        Refused::NoSet => Generated::NoSet,
+        Refused::NoQuotient => Generated::NoQuotient,
+        Refused::Full => Generated::Full,
+        Refused::Counts => Generated::Counts,
+    }
+}
+
+// After a search that gave q in so many visits.
+pub fn tell(m: Made, q: u64, visits: u64) -> Generated
+    ensures { λ g. ⌜ g ≡ generatedOf m q visits ⌝ }
+{
+    match m {
+        Made::Lost => Generated::Lost,
+        Made::DoublePrime(i) => Generated::DoublePrime(i),
+        Made::Full => Generated::Full,
+        Made::Done { sizes, bytes } => Generated::Done {
+            q,
+            visits,
+            sizes,
+            bytes,
         },
     }
 }
 
 // Where all was done, the set.
-pub fn keep_set(r: Chosen, set: &[u64; SET_WORDS], chosen: &mut [u64; SET_WORDS])
-    ensures { λ _. ⌜ now (chosen .exit) ≡ setAfter r (now (set .entry)) (now (chosen .entry)) ⌝ }
+pub fn keep_set(m: Made, set: &[u64; SET_WORDS], chosen: &mut [u64; SET_WORDS])
+    ensures { λ _. ⌜ now (chosen .exit) ≡ setAfter m (now (set .entry)) (now (chosen .entry)) ⌝ }
 {
-    match r {
-        Chosen::Full => {}
-        Chosen::Counts => {}
-        Chosen::Made(m) => match m {
-            Made::Lost => {}
-            Made::DoublePrime(_) => {}
-            Made::Full => {}
-            Made::Done { sizes: _, bytes: _ } => {
-                *chosen = *set;
-            }
-        },
+    match m {
+        Made::Lost => {}
+        Made::DoublePrime(_) => {}
+        Made::Full => {}
+        Made::Done { sizes: _, bytes: _ } => {
+            *chosen = *set;
+        }
     }
 }

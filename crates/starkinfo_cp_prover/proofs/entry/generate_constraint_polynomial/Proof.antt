@@ -1,84 +1,110 @@
 -- `starkinfo_cp_prover::entry::generate_constraint_polynomial` meets its contract: each need is one lemma of proofs/Entries.antt. Assumes nothing.
+use Prim.Native.Nat.{ℕ}
+use mathlib.Core.Path.{refl}
+use native.Mathlib.Omega.{arith}
+use lib.ListN.{length-replicate}
 use Rattle.codegen.specs.Building.{lists}
 use Rattle.constraint_build.specs.Both.{lent}
-use Rattle.starkinfo_cp_prover.specs.Polynomial.{asked}
-use Rattle.starkinfo_cp_prover.proofs.Entries.{malformed, limit, read-asks, read}
-use Prim.Native.Nat.{_<_}
-use native.Mathlib.Omega.{arith}
+use Rattle.constraint_frames.proofs.Listings.{listed-front, listed-room, listed-count}
+use Rattle.starkinfo_cp_prover.proofs.Entries.{not-chosen, lists-ask, all-told}
 use borrow.Author.Needs.{needs}
-use Rattle.starkinfo_cp_prover.proofs.entry.generate_constraint_polynomial.Statement.{statement}
+use Rattle.starkinfo_cp_prover.proofs.entry.generate_constraint_polynomial.Statement.{
+  statement,
+}
 use Rattle.starkinfo_cp_prover.proofs.entry.generate_constraint_polynomial.Tie as tie
 
-fill-requires : tie.Need-fill-requires
-fill-requires c κs = search needs
+decide-requires : tie.Need-decide-requires
+decide-requires c κs = record { nodes = length-replicate {A = ℕ} 8192 0; literals = length-replicate {A = ℕ} 4096 0; expressions = length-replicate {A = ℕ} 512 0 }
 
-enum-known-b : tie.Need-enum-known-b
-enum-known-b c = search needs
+enum-known-r : tie.Need-enum-known-r
+enum-known-r c = search needs
 
-enum-known-b-2 : tie.Need-enum-known-b-2
-enum-known-b-2 c = search needs
+refuse-requires : tie.Need-refuse-requires
+refuse-requires c κs = search needs
 
-enum-known-k : tie.Need-enum-known-k
-enum-known-k c = search needs
+enum-known-f : tie.Need-enum-known-f
+enum-known-f c = search needs
 
-constrain-read-requires : tie.Need-constrain-read-requires
-constrain-read-requires c κs = let S = c .before .before .before .before .before .before .before .before .before .before .before .before .before .before .before .before .before .before .before .before .before .before .before .before .before .before .before .before .before .before .before .before .before .before .before .before in read-asks (c .before .before .before .before .before .before .before .before .before .before .before .before .before .before .before .before .before .before .fill .ensures) (asked (S .args .identities .now) (S .args .vc) (S .args .n-bits) (S .args .n-bits-ext) (S .args .limit) (S .args .c)) (let z : S .args .vc < 65536 = omega (arith, S .good) in z) (lent (S .args .context .now) (S .args .list .now) (lists (S .args .first .now) (S .args .i .now) (S .args .last .now))) (lent (S .args .context-2ns .now) (S .args .list-2ns .now) (lists (S .args .first-2ns .now) (S .args .i-2ns .now) (S .args .last-2ns .now))) (S .args .out .now) (S .args .chosen .now) (c .before .before .before .before .before .before .before .before .before .before .before .before .before .before .before .before .k .given .1)
+list-members-requires : tie.Need-list-members-requires
+list-members-requires c κs = search needs
 
-returns : tie.Need-returns
-returns c = let S = c .before .before .before .before .before .before .before .before .before .before .before .before .before .before .before .before .before .before .before .before .before in malformed (c .before .before .before .fill .ensures) (asked (S .args .identities .now) (S .args .vc) (S .args .n-bits) (S .args .n-bits-ext) (S .args .limit) (S .args .c)) (let z : S .args .vc < 65536 = omega (arith, S .good) in z) (lent (S .args .context .now) (S .args .list .now) (lists (S .args .first .now) (S .args .i .now) (S .args .last .now))) (lent (S .args .context-2ns .now) (S .args .list-2ns .now) (lists (S .args .first-2ns .now) (S .args .i-2ns .now) (S .args .last-2ns .now))) (S .args .out .now) (S .args .chosen .now) (c .before .b .given .1)
+array-share-prefix-members : tie.Need-array-share-prefix-members
+array-share-prefix-members c = listed-room (c .before .before .before .list-members .ensures) (length-replicate {A = ℕ} 512 0)
 
-returns-2 : tie.Need-returns-2
-returns-2 c = let S = c .before .before .before .before .before .before .before .before .before .before .before .before .before .before .before .before .before .before .before .before .before in limit (c .before .before .before .fill .ensures) (asked (S .args .identities .now) (S .args .vc) (S .args .n-bits) (S .args .n-bits-ext) (S .args .limit) (S .args .c)) (let z : S .args .vc < 65536 = omega (arith, S .good) in z) (lent (S .args .context .now) (S .args .list .now) (lists (S .args .first .now) (S .args .i .now) (S .args .last .now))) (lent (S .args .context-2ns .now) (S .args .list-2ns .now) (lists (S .args .first-2ns .now) (S .args .i-2ns .now) (S .args .last-2ns .now))) (S .args .out .now) (S .args .chosen .now) (c .before .b2 .given .1)
+slice-aggregate-make-lists : tie.Need-slice-aggregate-make-lists
+slice-aggregate-make-lists c = listed-count (c .before .before .before .before .list-members .ensures) (length-replicate {A = ℕ} 512 0)
+
+make-lists-requires : tie.Need-make-lists-requires
+make-lists-requires c κs = let S = c .before .before .before .before .before .before .before .before .before .before .before .before .before .before .before .before .before .before .before .before .before .before .before .before .before .before .before .before .before .before .before .before .before .before .before .before .before .before .before .before .before in lists-ask (lent (S .args .context .now) (S .args .list .now) (lists (S .args .first .now) (S .args .i .now) (S .args .last .now))) (lent (S .args .context-2ns .now) (S .args .list-2ns .now) (lists (S .args .first-2ns .now) (S .args .i-2ns .now) (S .args .last-2ns .now))) (c .before .before .before .before .before .before .before .before .before .before .before .before .before .before .before .before .before .before .before .before .before .decide .ensures) (S .args .out .now) (S .args .chosen .now) (c .before .before .before .before .before .before .before .before .before .before .before .before .before .before .before .before .before .before .before .f .given .1) _ (listed-front (c .before .before .before .before .before .before .before .before .before .before .before .before .before .before .before .list-members .ensures) (length-replicate {A = ℕ} 512 0)) (let y = (listed-count (c .before .before .before .before .before .before .before .before .before .before .before .before .before .before .before .list-members .ensures) (length-replicate {A = ℕ} 512 0)) in omega (arith, y, (c .before .before .before .before .before .before .before .before .before .before .before .before .before .before .before .list-members .ensures) .few))
+
+keep-set-requires : tie.Need-keep-set-requires
+keep-set-requires c κs = search needs
+
+tell-requires : tie.Need-tell-requires
+tell-requires c κs = search needs
 
 same-length : tie.Need-same-length
-same-length c = c .before .before .before .before .before .before .before .before .before .before .before .before .before .before .before .before .before .before .before .before .before .before .constrain-read .kept .1 .1 .1 .1 .1 .1 .1 .1 .1 .0
+same-length c = refl
 
 same-length-2 : tie.Need-same-length-2
-same-length-2 c = c .before .before .before .before .before .before .before .before .before .before .before .before .before .before .before .before .before .before .before .before .before .before .constrain-read .kept .1 .1 .1 .1 .1 .1 .1 .1 .1 .1 .0
+same-length-2 c = refl
+
+returns : tie.Need-returns
+returns c = let S = c .before .before .before .before .before .before .before .before .before .before .before .before .before .before .before .before .before .before .before .before .before .before .before .before in not-chosen (lent (S .args .context .now) (S .args .list .now) (lists (S .args .first .now) (S .args .i .now) (S .args .last .now))) (lent (S .args .context-2ns .now) (S .args .list-2ns .now) (lists (S .args .first-2ns .now) (S .args .i-2ns .now) (S .args .last-2ns .now))) (c .before .before .before .before .decide .ensures) (S .args .out .now) (S .args .chosen .now) (c .before .before .r .given .1) (c .refuse .ensures)
 
 same-length-3 : tie.Need-same-length-3
-same-length-3 c = c .before .before .before .before .before .before .before .before .before .before .before .before .before .before .before .before .before .before .before .before .before .before .constrain-read .kept .1 .1 .1 .1 .1 .1 .1 .1 .1 .1 .1 .0
+same-length-3 c = c .before .before .before .before .before .before .before .before .before .before .before .before .before .before .before .before .before .before .before .before .before .before .before .before .before .before .make-lists .kept .1 .1 .1 .1 .0
 
 same-length-4 : tie.Need-same-length-4
-same-length-4 c = c .before .before .before .before .before .before .before .before .before .before .before .before .before .before .before .before .before .before .before .before .before .before .constrain-read .kept .1 .1 .1 .1 .1 .1 .1 .1 .1 .1 .1 .1 .0
+same-length-4 c = c .before .before .before .before .before .before .before .before .before .before .before .before .before .before .before .before .before .before .before .before .before .before .before .before .before .before .make-lists .kept .1 .1 .1 .1 .1 .0
 
 same-length-5 : tie.Need-same-length-5
-same-length-5 c = c .before .before .before .before .before .before .before .before .before .before .before .before .before .before .before .before .before .before .before .before .before .before .constrain-read .kept .1 .1 .1 .1 .1 .1 .1 .1 .1 .1 .1 .1 .1 .0
+same-length-5 c = c .before .before .before .before .before .before .before .before .before .before .before .before .before .before .before .before .before .before .before .before .before .before .before .before .before .before .make-lists .kept .1 .1 .1 .1 .1 .1 .0
 
 same-length-6 : tie.Need-same-length-6
-same-length-6 c = c .before .before .before .before .before .before .before .before .before .before .before .before .before .before .before .before .before .before .before .before .before .before .constrain-read .kept .1 .1 .1 .1 .1 .1 .1 .1 .1 .1 .1 .1 .1 .1 .0
+same-length-6 c = c .before .before .before .before .before .before .before .before .before .before .before .before .before .before .before .before .before .before .before .before .before .before .before .before .before .before .make-lists .kept .1 .1 .1 .1 .1 .1 .1 .0
 
 same-length-7 : tie.Need-same-length-7
-same-length-7 c = c .before .before .before .before .before .before .before .before .before .before .before .before .before .before .before .before .before .before .before .before .before .before .constrain-read .kept .1 .1 .1 .1 .1 .1 .1 .1 .1 .1 .1 .1 .1 .1 .1 .0
+same-length-7 c = c .before .before .before .before .before .before .before .before .before .before .before .before .before .before .before .before .before .before .before .before .before .before .before .before .before .before .make-lists .kept .1 .1 .1 .1 .1 .1 .1 .1 .0
 
 same-length-8 : tie.Need-same-length-8
-same-length-8 c = c .before .before .before .before .before .before .before .before .before .before .before .before .before .before .before .before .before .before .before .before .before .before .constrain-read .kept .1 .1 .1 .1 .1 .1 .1 .1 .1 .1 .1 .1 .1 .1 .1 .1 .0
+same-length-8 c = c .before .before .before .before .before .before .before .before .before .before .before .before .before .before .before .before .before .before .before .before .before .before .before .before .before .before .make-lists .kept .1 .1 .1 .1 .1 .1 .1 .1 .1 .0
 
 same-length-9 : tie.Need-same-length-9
-same-length-9 c = c .before .before .before .before .before .before .before .before .before .before .before .before .before .before .before .before .before .before .before .before .before .before .constrain-read .kept .1 .1 .1 .1 .1 .1 .1 .1 .1 .1 .1 .1 .1 .1 .1 .1 .1 .0
+same-length-9 c = c .before .before .before .before .before .before .before .before .before .before .before .before .before .before .before .before .before .before .before .before .before .before .before .before .before .before .make-lists .kept .1 .1 .1 .1 .1 .1 .1 .1 .1 .1 .0
 
 same-length-10 : tie.Need-same-length-10
-same-length-10 c = c .before .before .before .before .before .before .before .before .before .before .before .before .before .before .before .before .before .before .before .before .before .before .constrain-read .kept .1 .1 .1 .1 .1 .1 .1 .1 .1 .1 .1 .1 .1 .1 .1 .1 .1 .1 .0
+same-length-10 c = c .before .before .before .before .before .before .before .before .before .before .before .before .before .before .before .before .before .before .before .before .before .before .before .before .before .before .make-lists .kept .1 .1 .1 .1 .1 .1 .1 .1 .1 .1 .1 .0
 
 same-length-11 : tie.Need-same-length-11
-same-length-11 c = c .before .before .before .before .before .before .before .before .before .before .before .before .before .before .before .before .before .before .before .before .before .before .constrain-read .kept .1 .1 .1 .1 .1 .1 .1 .1 .1 .1 .1 .1 .1 .1 .1 .1 .1 .1 .1 .1 .0
+same-length-11 c = c .before .before .before .before .before .before .before .before .before .before .before .before .before .before .before .before .before .before .before .before .before .before .before .before .before .before .make-lists .kept .1 .1 .1 .1 .1 .1 .1 .1 .1 .1 .1 .1 .0
 
-returns-3 : tie.Need-returns-3
-returns-3 c = let S = c .before .before .before .before .before .before .before .before .before .before .before .before .before .before .before .before .before .before .before .before .before .before .before .before .before .before .before .before .before .before .before .before .before .before .before .before .before .before .before .before .before .before .before .before .before .before .before .before .before .before .before .before .before .before .before .before .before .before .before in read (c .before .before .before .before .before .before .before .before .before .before .before .before .before .before .before .before .before .before .before .before .before .before .before .before .before .before .before .before .before .before .before .before .before .before .before .before .before .before .before .before .before .fill .ensures) (asked (S .args .identities .now) (S .args .vc) (S .args .n-bits) (S .args .n-bits-ext) (S .args .limit) (S .args .c)) (let z : S .args .vc < 65536 = omega (arith, S .good) in z) (lent (S .args .context .now) (S .args .list .now) (lists (S .args .first .now) (S .args .i .now) (S .args .last .now))) (lent (S .args .context-2ns .now) (S .args .list-2ns .now) (lists (S .args .first-2ns .now) (S .args .i-2ns .now) (S .args .last-2ns .now))) (S .args .out .now) (S .args .chosen .now) (c .before .before .before .before .before .before .before .before .before .before .before .before .before .before .before .before .before .before .before .before .before .before .before .before .before .before .before .before .before .before .before .before .before .before .before .before .before .before .before .k .given .1) (c .before .before .before .before .before .before .before .before .before .before .before .before .before .before .before .before .before .before .before .before .before .before .constrain-read .ensures)
+same-length-12 : tie.Need-same-length-12
+same-length-12 c = c .before .before .before .before .before .before .before .before .before .before .before .before .before .before .before .before .before .before .before .before .before .before .before .before .before .before .make-lists .kept .1 .1 .1 .1 .1 .1 .1 .1 .1 .1 .1 .1 .1 .0
+
+same-length-13 : tie.Need-same-length-13
+same-length-13 c = c .before .before .before .before .before .before .before .before .before .before .before .before .before .before .before .before .before .before .before .before .before .before .before .before .before .before .make-lists .kept .1 .1 .1 .1 .1 .1 .1 .1 .1 .1 .1 .1 .1 .1 .1 .1 .0
+
+returns-2 : tie.Need-returns-2
+returns-2 c = let S = c .before .before .before .before .before .before .before .before .before .before .before .before .before .before .before .before .before .before .before .before .before .before .before .before .before .before .before .before .before .before .before .before .before .before .before .before .before .before .before .before .before .before .before .before .before .before .before .before .before .before .before .before .before .before .before .before .before .before .before .before .before .before .before .before .before .before .before .before in all-told (lent (S .args .context .now) (S .args .list .now) (lists (S .args .first .now) (S .args .i .now) (S .args .last .now))) (lent (S .args .context-2ns .now) (S .args .list-2ns .now) (lists (S .args .first-2ns .now) (S .args .i-2ns .now) (S .args .last-2ns .now))) (c .before .before .before .before .before .before .before .before .before .before .before .before .before .before .before .before .before .before .before .before .before .before .before .before .before .before .before .before .before .before .before .before .before .before .before .before .before .before .before .before .before .before .before .before .before .before .before .before .decide .ensures) (S .args .out .now) (S .args .chosen .now) (c .before .before .before .before .before .before .before .before .before .before .before .before .before .before .before .before .before .before .before .before .before .before .before .before .before .before .before .before .before .before .before .before .before .before .before .before .before .before .before .before .before .before .before .before .before .before .f .given .1) (listed-front (c .before .before .before .before .before .before .before .before .before .before .before .before .before .before .before .before .before .before .before .before .before .before .before .before .before .before .before .before .before .before .before .before .before .before .before .before .before .before .before .before .before .before .list-members .ensures) (length-replicate {A = ℕ} 512 0)) (c .before .before .before .before .before .before .before .before .before .before .before .before .before .before .before .before .before .before .before .before .before .before .before .before .before .before .make-lists .ensures) (c .before .keep-set .ensures) (c .tell .ensures)
 
 pub generate-constraint-polynomial-spec : {M : Type 1} → statement M
 generate-constraint-polynomial-spec =
     tie.close
     (tie.spec
-    fill-requires
-    enum-known-b
-    enum-known-b-2
-    enum-known-k
-    constrain-read-requires
-    returns
-    returns-2
+    decide-requires
+    enum-known-r
+    refuse-requires
+    enum-known-f
+    list-members-requires
+    array-share-prefix-members
+    slice-aggregate-make-lists
+    make-lists-requires
+    keep-set-requires
+    tell-requires
     same-length
     same-length-2
+    returns
     same-length-3
     same-length-4
     same-length-5
@@ -88,4 +114,6 @@ generate-constraint-polynomial-spec =
     same-length-9
     same-length-10
     same-length-11
-    returns-3)
+    same-length-12
+    same-length-13
+    returns-2)
