@@ -51,7 +51,7 @@ fn constrain_read(
     if !check::is_good(context_2ns, list_2ns.len(), k.expressions) {
         return Generated::BadContext;
     }
-    let no_table = [0u64; 0];
+    let no_table = [0u8; 0];
     let admission = admit(nodes, expressions, &no_table, k.nodes, k.expressions);
     let verdict = admission.verdict;
     match verdict {
