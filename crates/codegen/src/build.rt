@@ -109,7 +109,7 @@ fn build_read(
     if !check::is_good(context, list.len(), c.expressions) {
         return Built::BadContext;
     }
-    let no_table = [0u64; 0];
+    let no_table = [0u8; 0];
     let admission = admit(nodes, expressions, &no_table, c.nodes, c.expressions);
     let verdict = admission.verdict;
     match verdict {

@@ -40,7 +40,7 @@ fn decide_read(
     if !check::is_good(context_2ns, bytes_2ns, k.expressions) {
         return Decided::Refused(Refused::BadContext);
     }
-    let no_table = [0u64; 0];
+    let no_table = [0u8; 0];
     let admission = admit(nodes, expressions, &no_table, k.nodes, k.expressions);
     let verdict = admission.verdict;
     match verdict {

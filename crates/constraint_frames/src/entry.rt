@@ -84,7 +84,7 @@ fn extend_read(
     if !is_good(chosen, &members[..count], k.expressions) {
         return Constrained::BadSet;
     }
-    let no_table = [0u64; 0];
+    let no_table = [0u8; 0];
     let admission = admit(nodes, expressions, &no_table, k.nodes, k.expressions);
     let verdict = admission.verdict;
     match verdict {

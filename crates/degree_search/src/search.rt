@@ -34,7 +34,7 @@ pub fn search_pool(
     requires { ⌜ PoolAsked c ⌝ }
     ensures { λ r. ⌜ PoolGiven (now (nodes .entry)) (now (expressions .entry)) (now (identities .entry)) (now (chosen .entry)) (now (chosen .exit)) «n_bits» «n_bits_ext» limit c r ⌝ }
 {
-    let no_table = [0u64; 0];
+    let no_table = [0u8; 0];
     let admission = admit(nodes, expressions, &no_table, c.nodes, c.expressions);
     let verdict = admission.verdict;
     match verdict {

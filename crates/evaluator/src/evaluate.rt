@@ -69,7 +69,7 @@ fn evaluate_read(
     if !is_well_formed(list, modulus, values) {
         return Evaluation::IllFormed;
     }
-    let no_table = [0u64; 0];
+    let no_table = [0u8; 0];
     let admission = admit(nodes, expressions, &no_table, c.nodes, c.expressions);
     let verdict = admission.verdict;
     let m = modulus as u64;

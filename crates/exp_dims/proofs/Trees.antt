@@ -29,7 +29,7 @@ use Rattle.pool.specs.Laws.Trees.{arity, arity-is, leaf-is, tree-is}
 use Rattle.pool.specs.Laws.Leads.{lead-is, no-children, children-lead, leads-map}
 use Rattle.pool.specs.Laws.Nodes as Nodes
 use Rattle.exp_dims.specs.Dimension.{through, leafDim, treeDim, expDim}
-use Rattle.exp_dims.specs.Known.{leafDimIn, leafDimBy, D, Sound, World, TreeAsks, Gives, ExpAsks}
+use Rattle.exp_dims.specs.Known.{leafDimIn, leafDimBy, unknown, Kept, D, Sound, World, TreeAsks, Gives, ExpAsks}
 use Rattle.exp_dims.specs.Laws.{exp-is, grown-one, grown-two, grown-three}
 use Rattle.exp_dims.proofs.Leaves.{leaf-by}
 
@@ -46,29 +46,26 @@ leaf-through dims table f (Leaf.x k) n u h = absurd (Option·none-ne-some u h)
 -- ── what is known ────────────────────────────────────────────────────────────
 module _ (t : Tables) (table dims known : List ℕ) (sound : Sound t table dims known) where
   -- a dimension that is known
-  pub seen-is : (e : ℕ) → e < t .expressionCount → {s : ℕ} → s ≡ getD known e 0 → 0 < s → (s - 1 ≡ D t table dims e) × (s - 1 < 65536)
+  pub seen-is : (e : ℕ) → e < t .expressionCount → {s : ℕ} → s ≡ getD known e 0 → (s ≡ unknown → ⊥) → (s ≡ D t table dims e) × (s < unknown)
   seen-is e h {s} q z = go (sound .right e h)
     where
-      go : (getD known e 0 ≡ 0) ⊎ ((getD known e 0 ≡ suc (D t table dims e)) × (D t table dims e < 65536)) → (s - 1 ≡ D t table dims e) × (s - 1 < 65536)
-      go (inl g) = absurd (omega (arith, q, g, z))
-      go (inr g) = (omega (arith, q, g .0), omega (arith, q, g .0, g .1))
+      go : Kept (D t table dims e) (getD known e 0) → (s ≡ D t table dims e) × (s < unknown)
+      go (inl g) = absurd (z (q ∙ g))
+      go (inr g) = (q ∙ g .0, omega (arith, q, g .0, g .1))
 
   -- one more
-  pub sound-more : (e : ℕ) → e < expressionLimit → {d : ℕ} → d ≡ D t table dims e → d < 65536 → Sound t table dims (set known e (d + 1))
-  sound-more e h {d} q l =
+  pub sound-more : (e : ℕ) → e < expressionLimit → {d v : ℕ} → d ≡ D t table dims e → Kept d v → Sound t table dims (set known e v)
+  sound-more e h {d} {v} q k =
       record {
-        size = length-set known e (d + 1) ∙ sound .size;
+        size = length-set known e v ∙ sound .size;
         right = λ b g. go b g (eqb b e) refl;
       }
     where
-      go :
-          (b : ℕ) → b < t .expressionCount → (c : Bool) → eqb b e ≡ c →
-          (getD (set known e (d + 1)) b 0 ≡ 0) ⊎ ((getD (set known e (d + 1)) b 0 ≡ suc (D t table dims b)) × (D t table dims b < 65536))
+      go : (b : ℕ) → b < t .expressionCount → (c : Bool) → eqb b e ≡ c → Kept (D t table dims b) (getD (set known e v) b 0)
       go b g true z =
-          let y : b ≡ e = eqb-true b e z in
-          let w : getD (set known e (d + 1)) e 0 ≡ d + 1 = getD-set-same known e (d + 1) 0 (rw (sound .size) h) in
-          inr (rw y (w ∙ omega (arith, q)), rw (y, ← q) l)
-      go b g false z = rw (getD-set-other known e b (d + 1) 0 (eqb-false b e z)) (sound .right b g)
+          let w : getD (set known e v) e 0 ≡ v = getD-set-same known e v 0 (rw (sound .size) h) in
+          subst (λ n. Kept (D t table dims n) (getD (set known e v) n 0)) (sym (eqb-true b e z)) (rw w (subst (λ n. Kept n v) q k))
+      go b g false z = rw (getD-set-other known e b v 0 (eqb-false b e z)) (sound .right b g)
 
 -- ── an expression's tree ─────────────────────────────────────────────────────
 module _ (t : Tables) (table dims : List ℕ) (rank : ℕ → ℕ) (world : World t table dims rank) (e : ℕ) (there : e < t .expressionCount) where
@@ -164,10 +161,10 @@ module _ {w l x : List ℕ} {n m : ℕ} {table dims : List ℕ} {rank : ℕ → 
         pub some-levels : 0 < levels
         some-levels = omega (arith, low)
 
-        pub seen-low : {s : ℕ} → s ≡ getD known e 0 → 0 < s → s - 1 < 65536
+        pub seen-low : {s : ℕ} → s ≡ getD known e 0 → (s ≡ unknown → ⊥) → s < unknown
         seen-low q z = seen-is t table dims known (a .sound) e there-e q z .1
 
-        pub seen-gives : {s : ℕ} → s ≡ getD known e 0 → 0 < s → Gives t table dims known (T i) (s - 1)
+        pub seen-gives : {s : ℕ} → s ≡ getD known e 0 → (s ≡ unknown → ⊥) → Gives t table dims known (T i) s
         seen-gives q z = record { is = seen-is t table dims known (a .sound) e there-e q z .0 ∙ sym tree-e; sound = a .sound }
 
         -- its tree, with a level less
@@ -187,7 +184,7 @@ module _ {w l x : List ℕ} {n m : ℕ} {table dims : List ℕ} {rank : ℕ → 
           pub root-less : (levels - 1) * 4098 + (r + 1) < levels * 4098 + (i + 1)
           root-less = let k = root-asks .there in let f = a .world .starts .fewNodes in omega (arith, k, f, low)
 
-          pub root-gives : {known1 : List ℕ} {d : ℕ} → d < 65536 → Gives t table dims known1 (T r) d → Gives t table dims (set known1 e (d + 1)) (T i) d
+          pub root-gives : {known1 : List ℕ} {d v : ℕ} → Kept d v → Gives t table dims known1 (T r) d → Gives t table dims (set known1 e v) (T i) d
           root-gives {known1} {d} h g =
               let k : d ≡ F e = g .is ∙ ap T (sym root-is) ∙ sym (dim-is t table dims rank (a .world) e there-e) in
               record { is = k ∙ sym tree-e; sound = sound-more t table dims known1 (g .sound) e exp-room k h }

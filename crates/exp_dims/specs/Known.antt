@@ -1,6 +1,6 @@
--- What the functions ask and give, over tables: a table holds for each expression its dimension and 1, or 0 where it is not known yet.
+-- What the functions ask and give, over tables: a table of bytes holds for each expression its dimension, or 255 where it is not known.
 -- Assumes nothing: these are definitions.
-use Prim.Native.Nat.{ℕ, suc, _<_}
+use Prim.Native.Nat.{ℕ, _<_}
 use mathlib.Core.Path.{_≡_}
 use mathlib.Core.Bool.{cond}
 use mathlib.Core.Option.{some}
@@ -29,14 +29,21 @@ leafDimBy dims k i =
 abbrev pub leafDimIn : List ℕ → List ℕ → ℕ → ℕ
 leafDimIn w dims n = leafDimBy dims (kindIn w n) (idIn w n)
 
+abbrev pub unknown : ℕ
+unknown = 255
+
+-- what is kept of a dimension: itself, or nothing
+abbrev pub Kept : ℕ → ℕ → Type 0
+Kept d r = (r ≡ unknown) ⊎ ((r ≡ d) × (d < unknown))
+
 module _ (t : Tables) (table dims : List ℕ) where
   abbrev pub D : ℕ → ℕ
   D = expDim dims table (tabled t)
 
-  -- what is known is the dimension, which a u16 holds
+  -- what is known is the dimension
   pub record Sound (known : List ℕ) : Type 0 where
     pub size : length known ≡ expressionLimit
-    pub right : (e : ℕ) → e < t .expressionCount → (getD known e 0 ≡ 0) ⊎ ((getD known e 0 ≡ suc (D e)) × (D e < 65536))
+    pub right : (e : ℕ) → e < t .expressionCount → Kept (D e) (getD known e 0)
 
   -- a pool that is admitted
   pub record World (rank : ℕ → ℕ) : Type 0 where

@@ -10,21 +10,33 @@ use pool::shape::Found;
 use pool::words::child;
 use pool::words::root;
 ghost use mathlib.Core.Path.{_≡_};
-ghost use Rattle.exp_dims.specs.Known.{TreeAsked, TreeGiven, ExpAsked, ExpGiven};
+ghost use Rattle.pool.specs.Entries.{entriesIn};
+ghost use Rattle.exp_dims.specs.Known.{Kept, TreeAsked, TreeGiven, ExpAsked, ExpGiven};
 
-// Of the tree at node i. `known` holds for each expression its dimension and 1, or 0 where it is not known yet; an expression leads to others to no more
-// than so many levels.
+// An expression whose dimension is not known. One that is as large as that is computed each time.
+pub const UNKNOWN: u8 = 255;
+
+fn kept(d: u16) -> u8
+    ensures { λ r. ⌜ Kept d r ⌝ }
+{
+    if d < UNKNOWN as u16 {
+        return d as u8;
+    }
+    UNKNOWN
+}
+
+// Of the tree at node i. `known` holds the dimensions of expressions, where they are known; an expression leads to others to no more than so many levels.
 fn tree_dim(
     nodes: &[u64; NODE_WORDS],
     expressions: &[u64; EXPRESSION_LIMIT],
-    table: &[u64],
+    table: &[u8],
     dims: &[u16],
-    known: &mut [u64; EXPRESSION_LIMIT],
+    known: &mut [u8; EXPRESSION_LIMIT],
     levels: usize,
     i: usize,
 ) -> u16
-    requires { ⌜ TreeAsked (now nodes) (now expressions) (now table) (now dims) (now known) levels i ⌝ }
-    ensures { λ r. ⌜ TreeGiven (now (nodes .entry)) (now (expressions .entry)) (now (table .entry)) (now (dims .entry)) (now (known .entry)) (now (known .exit)) levels i r ⌝ }
+    requires { ⌜ TreeAsked (now nodes) (now expressions) (entriesIn (now table)) (now dims) (now known) levels i ⌝ }
+    ensures { λ r. ⌜ TreeGiven (now (nodes .entry)) (now (expressions .entry)) (entriesIn (now (table .entry))) (now (dims .entry)) (now (known .entry)) (now (known .exit)) levels i r ⌝ }
 {
     let count = count_at(nodes, i);
     if count == 0 {
@@ -32,12 +44,12 @@ fn tree_dim(
             return leaf_dim(nodes, dims, i);
         };
         let seen = known[e];
-        if 0 < seen {
-            return (seen - 1) as u16;
+        if seen != UNKNOWN {
+            return seen as u16;
         }
         let top = root(expressions, e);
         let d = tree_dim(nodes, expressions, table, dims, known, levels - 1, top);
-        known[e] = d as u64 + 1;
+        known[e] = kept(d);
         return d;
     }
     let c0 = child(nodes, i, 0);
@@ -61,13 +73,13 @@ fn tree_dim(
 pub fn get_exp_dim(
     nodes: &[u64; NODE_WORDS],
     expressions: &[u64; EXPRESSION_LIMIT],
-    table: &[u64],
+    table: &[u8],
     dims: &[u16],
-    known: &mut [u64; EXPRESSION_LIMIT],
+    known: &mut [u8; EXPRESSION_LIMIT],
     e: usize,
 ) -> u16
-    requires { ⌜ ExpAsked (now nodes) (now expressions) (now table) (now dims) (now known) e ⌝ }
-    ensures { λ r. ⌜ ExpGiven (now (nodes .entry)) (now (expressions .entry)) (now (table .entry)) (now (dims .entry)) (now (known .entry)) (now (known .exit)) e r ⌝ }
+    requires { ⌜ ExpAsked (now nodes) (now expressions) (entriesIn (now table)) (now dims) (now known) e ⌝ }
+    ensures { λ r. ⌜ ExpGiven (now (nodes .entry)) (now (expressions .entry)) (entriesIn (now (table .entry))) (now (dims .entry)) (now (known .entry)) (now (known .exit)) e r ⌝ }
 {
     tree_dim(
         nodes,

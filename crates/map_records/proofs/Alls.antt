@@ -3,7 +3,8 @@ use Prim.Native.Nat.{ℕ, suc, _+_, _<_, _≤_}
 use mathlib.Core.Path.{_≡_, refl, sym, _∙_, ap, subst}
 use mathlib.Core.List.{List, []}
 use native.Mathlib.Omega.{arith}
-use lib.ListN.{length, set}
+use lib.ListN.{length, set, replicate}
+use Rattle.frames.specs.Order.{expressionLimit}
 use Rattle.pool.specs.Pool.{Pool}
 use Rattle.pool.specs.Admission.{Ranked}
 use Rattle.pool.specs.Ranking.{Starts}
@@ -11,9 +12,10 @@ use Rattle.pool.specs.Tabled.{Tables, tabled}
 use Rattle.exp_dims.specs.Dimension.{expDim}
 use Rattle.plans.specs.Plan.{Is, numberLimit, cm1, cExp, puCount, imCount, productCount, qDeg}
 use Rattle.plans.specs.Columns.{recordLimit}
-use Rattle.plans.specs.Counting.{Tells, known}
+use Rattle.plans.specs.Counting.{Tells, MarkAsks, known}
+use Rattle.plans.specs.Counts.{none-told}
 use Rattle.map_records.specs.Mapping.{Mapping, pol, cm1s, lookups, products, intermediates, qDim, quotients, mapped}
-use Rattle.map_records.specs.Tables.{Holds, State, Planned, Ready, DimAsks, Begun, ImAsks, QuotientAsks}
+use Rattle.map_records.specs.Tables.{Holds, State, Planned, ProductsLow, Ready, DimAsks, Begun, ImAsks, QuotientAsks}
 use Rattle.map_records.specs.All.{AllAsks, Mapped}
 use Rattle.map_records.specs.Held.{holds-pol}
 use Rattle.plans.specs.Passed.{names-there}
@@ -27,15 +29,27 @@ module _ {b : List ℕ} {t : Tables} {rank : ℕ → ℕ} {table ss ds cs : List
   pub planned : Planned b
   planned = a .ready .planned
 
+  pub mark-asks : MarkAsks expressionLimit b (replicate expressionLimit 0)
+  mark-asks = record {
+    whole = planned .whole;
+    low = λ i h g. let k = names-there b (t .expressionCount) (a .ready .names) .im i h in omega (arith, k, a .ready .starts .fewExpressions);
+    blank = none-told expressionLimit;
+  }
+
+  pub products-low : ProductsLow b
+  products-low i h =
+      let k = names-there b (t .expressionCount) (a .ready .names) in
+      (let n = k .num i h in omega (arith, n, a .ready .starts .fewExpressions), let n = k .den i h in omega (arith, n, a .ready .starts .fewExpressions))
+
   -- the pu follow the first columns
   pub to-lookups :
-      {ss1 ds1 cs1 seen : List ℕ} {n : ℕ} → Holds ss1 ds1 cs1 n (cm1s b p (cm1 b)) → Tells (known b []) seen → Begun b t rank table ss1 ds1 cs1 seen n (lookups b p 0)
+      {ss1 ds1 cs1 seen : List ℕ} {n : ℕ} → Holds ss1 ds1 cs1 n (cm1s b p (cm1 b)) → Tells expressionLimit (known b []) seen → Begun b t rank table ss1 ds1 cs1 seen n (lookups b p 0)
   unfolding lookups
   to-lookups {ss1} {ds1} {cs1} {seen} h q =
       record {
         ready = a .ready;
         tabling = a .tabling;
-        state = record { holds = h; tells = subst (λ (z : List ℕ). Tells (known b z) seen) (sym (cm1s-columns b p (cm1 b))) q };
+        state = record { holds = h; tells = subst (λ (z : List ℕ). Tells expressionLimit (known b z) seen) (sym (cm1s-columns b p (cm1 b))) q };
       }
 
   -- the grand products follow the pu

@@ -5,7 +5,7 @@ use mathlib.Core.Bool.{Bool, true, false, _||_, cond}
 use mathlib.Core.List.{List, [], _∷_, _++_}
 use native.Mathlib.Omega.{arith}
 use lib.ListN.{length, set}
-use Rattle.plans.specs.Plan.{numberLimit}
+use Rattle.frames.specs.Order.{expressionLimit}
 use Rattle.plans.specs.Columns.{recordLimit, among, isIm, adding}
 use Rattle.plans.specs.Counting.{Tells, Asked, Counted, known}
 use Rattle.plans.specs.Counts.{counted-one}
@@ -32,11 +32,11 @@ unfolding adding
 adding-new b e cs h = rw h
 
 module _ {b ss ds cs seen : List ℕ} {n e d : ℕ} {m : Mapping} (a : ColumnAsks b ss ds cs seen n e d m) {seen′ : List ℕ} {r : ℕ} (q : Asked seen e r seen′) where
-  after : Counted b (adding b e (m .columns)) (length (m .columns) + r) (length (m .columns) + 1) seen′
+  after : Counted expressionLimit b (adding b e (m .columns)) (length (m .columns) + r) (length (m .columns) + 1) seen′
   after = counted-one (a .small) (record { tells = a .state .tells; count = refl; few = omega arith }) q
 
-  tells : Tells (known b (column b e d m .columns)) seen′
-  tells = subst (λ (z : List ℕ). Tells (known b z) seen′) (sym (column-columns b e d m)) (after .tells)
+  tells : Tells expressionLimit (known b (column b e d m .columns)) seen′
+  tells = subst (λ (z : List ℕ). Tells expressionLimit (known b z) seen′) (sym (column-columns b e d m)) (after .tells)
 
   by-known : (c : Bool) → known b (m .columns) e ≡ c → r ≡ cond c 0 1
   by-known true h = omega (arith, after .count, ap length (adding-old b e (m .columns) h))

@@ -8,7 +8,7 @@ use lib.ListN.{length, getD, replicate, length-replicate, getD-replicate}
 use Rattle.frames.specs.Order.{expressionLimit}
 use Rattle.pool.specs.Tabled.{Tables}
 use Rattle.pool.specs.Ranking.{Tabling}
-use Rattle.exp_dims.specs.Known.{Sound, World, ExpAsks, Gives, D}
+use Rattle.exp_dims.specs.Known.{unknown, Sound, World, ExpAsks, Gives, D}
 use Rattle.map_records.specs.Tables.{DimAsks}
 
 module _ {t : Tables} {table : List ℕ} {rank : ℕ → ℕ} {e : ℕ} (a : DimAsks t table rank e) (dims : List ℕ) where
@@ -16,14 +16,14 @@ module _ {t : Tables} {table : List ℕ} {rank : ℕ → ℕ} {e : ℕ} (a : Dim
   world = record { starts = a .starts; ranked = a .ranked }
 
   -- nothing is known yet
-  pub first-asks : ExpAsks t table dims rank (replicate expressionLimit 0) e
+  pub first-asks : ExpAsks t table dims rank (replicate expressionLimit unknown) e
   first-asks =
       record {
         world = world;
         there = a .there;
         sound = record {
-          size = length-replicate {A = ℕ} expressionLimit 0;
-          right = λ b h. let few = a .starts .fewExpressions in inl (getD-replicate {A = ℕ} expressionLimit b 0 0 (omega arith));
+          size = length-replicate {A = ℕ} expressionLimit unknown;
+          right = λ b h. let few = a .starts .fewExpressions in inl (getD-replicate {A = ℕ} expressionLimit b unknown 0 (omega arith));
         };
       }
 

@@ -5,6 +5,7 @@ use mathlib.Core.List.{List, [], _∷_, _++_}
 use native.Mathlib.Omega.{arith}
 use native.Mathlib.Numerals.{add-one}
 use lib.ListN.{length, set}
+use Rattle.frames.specs.Order.{expressionLimit}
 use Rattle.pool.specs.Pool.{Pool}
 use Rattle.pool.specs.Admission.{Ranked}
 use Rattle.pool.specs.Ranking.{Starts}
@@ -13,7 +14,7 @@ use Rattle.exp_dims.specs.Dimension.{expDim}
 use Rattle.plans.specs.Plan.{Is, numberLimit, cm1, puCount, productCount, fOf, tOf, numOf, denOf, q2exp}
 use Rattle.plans.specs.Columns.{recordLimit}
 use Rattle.map_records.specs.Mapping.{Mapping, pair, twin, column, hAt, zAt, lookupDim, lookup, lookups, products}
-use Rattle.map_records.specs.Tables.{Holds, State, Planned, Ready, DimAsks, Begun, ColumnAsks}
+use Rattle.map_records.specs.Tables.{Holds, State, Planned, ProductsLow, Ready, DimAsks, Begun, ColumnAsks}
 use Rattle.plans.specs.Passed.{names-there}
 use Rattle.map_records.specs.Sizes.{size, pair-size, column-size, adding-grows, lookups-fit, products-fit}
 use Rattle.map_records.proofs.Parts.{pair-next}
@@ -23,7 +24,7 @@ column-grows b e d m = let k = column-size b e d m in let g = adding-grows b e (
 
 -- ---- two columns after some records
 
-module _ {b ss ds cs seen : List ℕ} {n : ℕ} {m : Mapping} (state : State b ss ds cs seen n m) (d : ℕ) {e x : ℕ} (ee : Is e x numberLimit) {f y : ℕ} (fe : Is f y numberLimit) (fits : size (column b y d (column b x d m)) ≤ recordLimit) where
+module _ {b ss ds cs seen : List ℕ} {n : ℕ} {m : Mapping} (state : State b ss ds cs seen n m) (d : ℕ) {e x : ℕ} (ee : Is e x expressionLimit) {f y : ℕ} (fe : Is f y expressionLimit) (fits : size (column b y d (column b x d m)) ≤ recordLimit) where
   pub one-asks : ColumnAsks b ss ds cs seen n e d m
   one-asks =
       record {
@@ -67,6 +68,12 @@ module _ {b : List ℕ} {t : Tables} {rank : ℕ → ℕ} {table ss ds cs seen :
       }
 
   module _ {f : ℕ} (fe : Is f (fOf b i) numberLimit) {u : ℕ} (ue : Is u (tOf b i) numberLimit) where
+    f-low : Is f (fOf b i) expressionLimit
+    f-low = let h = names-there b (t .expressionCount) (a .ready .names) .f i l in record { is = fe .is; low = omega (arith, fe .is, h, a .ready .starts .fewExpressions) }
+
+    t-low : Is u (tOf b i) expressionLimit
+    t-low = let h = names-there b (t .expressionCount) (a .ready .names) .t i l in record { is = ue .is; low = omega (arith, ue .is, h, a .ready .starts .fewExpressions) }
+
     pub f-asks : DimAsks t table rank f
     f-asks = there-asks (subst (λ z. z < t .expressionCount) (sym (fe .is)) (names-there b (t .expressionCount) (a .ready .names) .f i l))
 
@@ -104,16 +111,16 @@ module _ {b : List ℕ} {t : Tables} {rank : ℕ → ℕ} {table ss ds cs seen :
             }
 
         pub lookup-first : ColumnAsks b ss2 ds2 (set (set cs h d) (h + 1) d) seen (n + 4) f d (pair 1 (hAt b p i + 1) d (pair 1 (hAt b p i) d m))
-        lookup-first = one-asks lookup-held d fe ue lookup-fits
+        lookup-first = one-asks lookup-held d f-low t-low lookup-fits
 
         module _ {ss3 ds3 seen3 : List ℕ} {r3 : ℕ} (g3 : State b ss3 ds3 (set (set cs h d) (h + 1) d) seen3 r3 (column b f d (pair 1 (hAt b p i + 1) d (pair 1 (hAt b p i) d m)))) where
           pub lookup-second : ColumnAsks b ss3 ds3 (set (set cs h d) (h + 1) d) seen3 r3 u d (column b f d (pair 1 (hAt b p i + 1) d (pair 1 (hAt b p i) d m)))
-          lookup-second = two-asks lookup-held d fe ue lookup-fits g3
+          lookup-second = two-asks lookup-held d f-low t-low lookup-fits g3
 
           pub lookup-end :
               {ss4 ds4 seen4 : List ℕ} {r4 : ℕ} → State b ss4 ds4 (set (set cs h d) (h + 1) d) seen4 r4 (column b u d (column b f d (pair 1 (hAt b p i + 1) d (pair 1 (hAt b p i) d m))))
               → State b ss4 ds4 (set (set cs h d) (h + 1) d) seen4 r4 (lookups b p (i + 1))
-          lookup-end {ss4} {ds4} {seen4} {r4} g4 = subst (λ (z : Mapping). State b ss4 ds4 (set (set cs h d) (h + 1) d) seen4 r4 z) whole (two-end lookup-held d fe ue lookup-fits g3 g4)
+          lookup-end {ss4} {ds4} {seen4} {r4} g4 = subst (λ (z : Mapping). State b ss4 ds4 (set (set cs h d) (h + 1) d) seen4 r4 z) whole (two-end lookup-held d f-low t-low lookup-fits g3 g4)
 
 -- ---- one grand product
 
@@ -121,9 +128,15 @@ products-next : (b : List ℕ) (p : Pool) (i : ℕ) → column b (denOf b i) 3 (
 unfolding products
 products-next b p i = ap (products b p) (sym (add-one i))
 
-module _ {b ss ds cs seen : List ℕ} {n i : ℕ} (planned : Planned b) (p : Pool) (a : State b ss ds cs seen n (products b p i)) (l : i < productCount b) {x : ℕ} (xe : Is x (numOf b i) numberLimit) {y : ℕ} (ye : Is y (denOf b i) numberLimit) where
+module _ {b ss ds cs seen : List ℕ} {n i : ℕ} (planned : Planned b × ProductsLow b) (p : Pool) (a : State b ss ds cs seen n (products b p i)) (l : i < productCount b) {x : ℕ} (xe : Is x (numOf b i) numberLimit) {y : ℕ} (ye : Is y (denOf b i) numberLimit) where
+  num-low : Is x (numOf b i) expressionLimit
+  num-low = let h = planned .1 i l .0 in record { is = xe .is; low = omega (arith, xe .is, h) }
+
+  den-low : Is y (denOf b i) expressionLimit
+  den-low = let h = planned .1 i l .1 in record { is = ye .is; low = omega (arith, ye .is, h) }
+
   product-fits : size (column b (denOf b i) 3 (column b (numOf b i) 3 (pair 2 (zAt b p i) 3 (products b p i)))) ≤ recordLimit
-  product-fits = subst (λ (z : Mapping). size z ≤ recordLimit) (sym (products-next b p i)) (products-fit b p (planned .fits) (i + 1) (omega (arith, l)))
+  product-fits = subst (λ (z : Mapping). size z ≤ recordLimit) (sym (products-next b p i)) (products-fit b p (planned .0 .fits) (i + 1) (omega (arith, l)))
 
   pub product-room : n + 1 < recordLimit
   product-room =
@@ -141,16 +154,16 @@ module _ {b ss ds cs seen : List ℕ} {n i : ℕ} (planned : Planned b) (p : Poo
         record { holds = subst (λ k. Holds ss1 ds1 (set cs z 3) (n + 2) (pair 2 k 3 (products b p i))) ze one; tells = a .tells }
 
     pub product-first : ColumnAsks b ss1 ds1 (set cs z 3) seen (n + 2) x 3 (pair 2 (zAt b p i) 3 (products b p i))
-    product-first = one-asks product-held 3 xe ye product-fits
+    product-first = one-asks product-held 3 num-low den-low product-fits
 
     module _ {ss2 ds2 seen2 : List ℕ} {r2 : ℕ} (g2 : State b ss2 ds2 (set cs z 3) seen2 r2 (column b x 3 (pair 2 (zAt b p i) 3 (products b p i)))) where
       pub product-second : ColumnAsks b ss2 ds2 (set cs z 3) seen2 r2 y 3 (column b x 3 (pair 2 (zAt b p i) 3 (products b p i)))
-      product-second = two-asks product-held 3 xe ye product-fits g2
+      product-second = two-asks product-held 3 num-low den-low product-fits g2
 
       pub product-end :
           {ss3 ds3 seen3 : List ℕ} {r3 : ℕ} → State b ss3 ds3 (set cs z 3) seen3 r3 (column b y 3 (column b x 3 (pair 2 (zAt b p i) 3 (products b p i))))
           → State b ss3 ds3 (set cs z 3) seen3 r3 (products b p (i + 1))
-      product-end {ss3} {ds3} {seen3} {r3} g3 = subst (λ (k : Mapping). State b ss3 ds3 (set cs z 3) seen3 r3 k) (products-next b p i) (two-end product-held 3 xe ye product-fits g2 g3)
+      product-end {ss3} {ds3} {seen3} {r3} g3 = subst (λ (k : Mapping). State b ss3 ds3 (set cs z 3) seen3 r3 k) (products-next b p i) (two-end product-held 3 num-low den-low product-fits g2 g3)
 
 -- ---- a part, from one mapping on to the next
 

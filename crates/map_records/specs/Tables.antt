@@ -5,11 +5,12 @@ use mathlib.Core.Path.{_≡_}
 use mathlib.Core.Bool.{true}
 use mathlib.Core.List.{List}
 use lib.ListN.{length, take}
+use Rattle.frames.specs.Order.{expressionLimit}
 use Rattle.pool.specs.Pool.{Pool}
 use Rattle.pool.specs.Tabled.{Tables, tabled}
 use Rattle.pool.specs.Admission.{Ranked}
 use Rattle.pool.specs.Ranking.{Tabling, Starts}
-use Rattle.plans.specs.Plan.{Whole, numberLimit, imCount, qDeg, q2exp}
+use Rattle.plans.specs.Plan.{Whole, productCount, numOf, denOf, imCount, qDeg, q2exp}
 use Rattle.plans.specs.Columns.{recordLimit, recordCount}
 use Rattle.plans.specs.Counting.{Tells, known}
 use Rattle.plans.specs.Agreement.{namesThere, countsAgree}
@@ -30,7 +31,7 @@ pub record Holds (ss ds cs : List ℕ) (n : ℕ) (m : Mapping) : Type 0 where
 -- and a table that tells which expressions get no column any more
 pub record State (b ss ds cs seen : List ℕ) (n : ℕ) (m : Mapping) : Type 0 where
   pub holds : Holds ss ds cs n m
-  pub tells : Tells (known b (m .columns)) seen
+  pub tells : Tells expressionLimit (known b (m .columns)) seen
 
 -- a plan that fits, with counts that agree
 pub record Planned (b : List ℕ) : Type 0 where
@@ -48,7 +49,7 @@ pub record Ready (b : List ℕ) (t : Tables) (rank : ℕ → ℕ) : Type 0 where
 -- ── one column ───────────────────────────────────────────────────────────────
 pub record ColumnAsks (b ss ds cs seen : List ℕ) (n e d : ℕ) (m : Mapping) : Type 0 where
   pub state : State b ss ds cs seen n m
-  pub small : e < numberLimit
+  pub small : e < expressionLimit
   pub fits : length (column b e d m .sections) ≤ recordLimit
 
 -- for whichever plan, cm_dims and mapping: some are asked for, and the answer holds of all
@@ -99,9 +100,13 @@ PartGiven w x table b ss ds cs seen n from ss′ ds′ cs′ seen′ r to =
     (l : List ℕ) (k m : ℕ) (rank : ℕ → ℕ) → Begun b (Tabling w l x k m) rank table ss ds cs seen n (from (tabled (Tabling w l x k m))) →
     State b ss′ ds′ cs′ seen′ r (to (tabled (Tabling w l x k m)))
 
+-- the grand products name expressions that a pool can have
+abbrev pub ProductsLow : List ℕ → Type 0
+ProductsLow b = (i : ℕ) → i < productCount b → (numOf b i < expressionLimit) × (denOf b i < expressionLimit)
+
 -- a part that looks at no expression's dimension
 abbrev pub PlainAsked : List ℕ → List ℕ → List ℕ → List ℕ → List ℕ → ℕ → (Pool → Mapping) → Type 0
-PlainAsked b ss ds cs seen n from = Planned b × ((p : Pool) × State b ss ds cs seen n (from p))
+PlainAsked b ss ds cs seen n from = (Planned b × ProductsLow b) × ((p : Pool) × State b ss ds cs seen n (from p))
 
 abbrev pub PlainGiven : List ℕ → List ℕ → List ℕ → List ℕ → List ℕ → ℕ → (Pool → Mapping) → List ℕ → List ℕ → List ℕ → List ℕ → ℕ → (Pool → Mapping) → Type 0
 PlainGiven b ss ds cs seen n from ss′ ds′ cs′ seen′ r to = (p : Pool) → State b ss ds cs seen n (from p) → State b ss′ ds′ cs′ seen′ r (to p)

@@ -9,11 +9,11 @@ use crate::rest::map_quotients;
 use exp_dims::leaf::EXTENSION;
 use frames::count::EXPRESSION_LIMIT;
 use frames::tables::NODE_WORDS;
-use plans::count::NUMBER_LIMIT;
 use plans::count::mark_intermediates;
 use plans::layout::c_exp_of;
 use sections::map_section::RECORD_LIMIT;
 use sections::section::Section;
+ghost use Rattle.pool.specs.Entries.{entriesIn};
 ghost use Rattle.map_records.specs.All.{AllAsked, AllGiven};
 
 // How many records there are, and the dimension of the quotient.
@@ -26,15 +26,15 @@ pub fn map_all(
     plan: &[u8],
     nodes: &[u64; NODE_WORDS],
     expressions: &[u64; EXPRESSION_LIMIT],
-    table: &[u64],
+    table: &[u8],
     sections: &mut [u16; RECORD_LIMIT],
     dims: &mut [u16; RECORD_LIMIT],
     cmdims: &mut [u16],
 ) -> Records
-    requires { ⌜ AllAsked (now nodes) (now expressions) (now table) (now plan) (now sections) (now dims) (now cmdims) ⌝ }
-    ensures { λ r. ⌜ AllGiven (now (nodes .entry)) (now (expressions .entry)) (now (table .entry)) (now (plan .entry)) (now (sections .entry)) (now (dims .entry)) (now (cmdims .entry)) (now (sections .exit)) (now (dims .exit)) (now (cmdims .exit)) r ⌝ }
+    requires { ⌜ AllAsked (now nodes) (now expressions) (entriesIn (now table)) (now plan) (now sections) (now dims) (now cmdims) ⌝ }
+    ensures { λ r. ⌜ AllGiven (now (nodes .entry)) (now (expressions .entry)) (entriesIn (now (table .entry))) (now (plan .entry)) (now (sections .entry)) (now (dims .entry)) (now (cmdims .entry)) (now (sections .exit)) (now (dims .exit)) (now (cmdims .exit)) r ⌝ }
 {
-    let mut seen = [0u8; NUMBER_LIMIT];
+    let mut seen = [0u8; EXPRESSION_LIMIT];
     mark_intermediates(plan, &mut seen);
     let first = map_cm1(plan, sections, dims, cmdims);
     let second = map_lookups(

@@ -1,6 +1,5 @@
 // A temporary column for an expression, unless it is an intermediate or has one.
 use crate::records::add_record;
-use plans::count::NUMBER_LIMIT;
 use plans::count::ask;
 use sections::map_section::RECORD_LIMIT;
 use sections::section::Section;
@@ -10,7 +9,7 @@ ghost use Rattle.map_records.specs.Tables.{ColumnAsked, ColumnGiven};
 pub fn add_column(
     sections: &mut [u16; RECORD_LIMIT],
     dims: &mut [u16; RECORD_LIMIT],
-    seen: &mut [u8; NUMBER_LIMIT],
+    seen: &mut [u8],
     n: usize,
     e: usize,
     dim: u16,

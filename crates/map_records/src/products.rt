@@ -2,7 +2,6 @@
 use crate::column::add_column;
 use crate::records::add_pair;
 use exp_dims::leaf::EXTENSION;
-use plans::count::NUMBER_LIMIT;
 use plans::layout::cm1_of;
 use plans::layout::cm2_of;
 use plans::layout::number_at;
@@ -20,7 +19,7 @@ fn map_product(
     sections: &mut [u16; RECORD_LIMIT],
     dims: &mut [u16; RECORD_LIMIT],
     cmdims: &mut [u16],
-    seen: &mut [u8; NUMBER_LIMIT],
+    seen: &mut [u8],
     n: usize,
     i: usize,
 ) -> usize
@@ -42,7 +41,7 @@ pub fn map_products(
     sections: &mut [u16; RECORD_LIMIT],
     dims: &mut [u16; RECORD_LIMIT],
     cmdims: &mut [u16],
-    seen: &mut [u8; NUMBER_LIMIT],
+    seen: &mut [u8],
     before: usize,
 ) -> usize
     requires { ⌜ PlainAsked (now plan) (now sections) (now dims) (now cmdims) (now seen) before (λ p. products (now plan) p 0) ⌝ }

@@ -16,6 +16,7 @@ use sections::map_section::RECORD_LIMIT;
 use sections::section::Section;
 ghost use mathlib.Core.Path.{_≡_};
 ghost use mathlib.Core.List.{[]};
+ghost use Rattle.pool.specs.Entries.{entriesIn};
 ghost use Rattle.plans.specs.Plan.{cm1, imCount, qDeg};
 ghost use Rattle.map_records.specs.Mapping.{fresh, cm1s, intermediates, qDim, quotients};
 ghost use Rattle.map_records.specs.Tables.{HeldAsked, HeldGiven, QuotientAsked, QuotientGiven, ImAsked, ImGiven};
@@ -47,14 +48,14 @@ pub fn map_intermediates(
     plan: &[u8],
     nodes: &[u64; NODE_WORDS],
     expressions: &[u64; EXPRESSION_LIMIT],
-    table: &[u64],
+    table: &[u8],
     sections: &mut [u16; RECORD_LIMIT],
     dims: &mut [u16; RECORD_LIMIT],
     cmdims: &mut [u16],
     before: usize,
 ) -> usize
-    requires { ⌜ ImAsked (now nodes) (now expressions) (now table) (now plan) (now sections) (now dims) (now cmdims) before ⌝ }
-    ensures { λ r. ⌜ ImGiven (now (nodes .entry)) (now (expressions .entry)) (now (table .entry)) (now (plan .entry)) (now (sections .entry)) (now (dims .entry)) (now (cmdims .entry)) before (now (sections .exit)) (now (dims .exit)) (now (cmdims .exit)) r ⌝ }
+    requires { ⌜ ImAsked (now nodes) (now expressions) (entriesIn (now table)) (now plan) (now sections) (now dims) (now cmdims) before ⌝ }
+    ensures { λ r. ⌜ ImGiven (now (nodes .entry)) (now (expressions .entry)) (entriesIn (now (table .entry))) (now (plan .entry)) (now (sections .entry)) (now (dims .entry)) (now (cmdims .entry)) before (now (sections .exit)) (now (dims .exit)) (now (cmdims .exit)) r ⌝ }
 {
     let count = im_count(plan);
     let at = im_at(plan);

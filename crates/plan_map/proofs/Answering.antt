@@ -12,6 +12,7 @@ use Rattle.kinds.specs.Write.{write-is}
 use Rattle.meaning.specs.Refusals.{Refusal, Answer, done, refused, _then_}
 use Rattle.pool.specs.Pool.{Pool}
 use Rattle.plans.specs.Plan.{nBits, nBitsExt}
+use Rattle.plans.specs.Passed.{names-there, names-below}
 use Rattle.plans.specs.Columns.{recordLimit}
 use Rattle.plans.specs.Agreement.{cmCount}
 use Rattle.sections.specs.Sums.{each-length}
@@ -69,7 +70,7 @@ expression-size b p n =
 
 module _ {b : List ℕ} {p : Pool} {ss ds cs : List ℕ} {k : Plan} (d : Drawn b p ss ds cs k) where
   pub fitting : Fitting b
-  fitting = (d .planned .whole, d .planned .fits)
+  fitting = (d .planned .whole, d .planned .fits, names-below b (d .few) (names-there b (k .expressions) (d .names)))
 
   pub records-few : k .records ≤ recordLimit
   records-few = held-few b p (d .planned) (d .holds)
@@ -216,7 +217,7 @@ module _ {b : List ℕ} {p : Pool} {ss ds cs : List ℕ} {k : Plan} (d : Drawn b
 
 -- ---- frames
 
-module _ {s b : List ℕ} {w x table ss ds cs : List ℕ} {r : Planning} (g : FramesGiven s b true w x table ss ds cs r) (out : List ℕ) where
+module _ {s b : List ℕ} {w x ss ds cs : List ℕ} {r : Planning} (g : FramesGiven s b true w x ss ds cs r) (out : List ℕ) where
   pub unplanned-map : {u : Unplanned} → r ≡ planning.Refused u → MapIs s b out out (mapping.Unplanned u)
   unplanned-map {u} q =
       let what : Planned → Answer (List ℕ) = mapBy b (length out) in

@@ -11,7 +11,6 @@ use planning::answer::Plan;
 use planning::answer::Planning;
 use planning::answer::Unplanned;
 use planning::frames_plan::plan_frames;
-use plans::count::NUMBER_LIMIT;
 use plans::layout::cm_count;
 use sections::map_section::RECORD_LIMIT;
 ghost use Rattle.plan_map.specs.Whole.{PlannedAsked, PlannedGiven, MapIs};
@@ -69,7 +68,6 @@ pub fn map(s: &[u8], plan: &[u8], out: &mut [u8]) -> Mapping
 {
     let mut nodes = [0u64; NODE_WORDS];
     let mut expressions = [0u64; EXPRESSION_LIMIT];
-    let mut table = [0u64; NUMBER_LIMIT];
     let mut sections = [0u16; RECORD_LIMIT];
     let mut dims = [0u16; RECORD_LIMIT];
     let mut cmdims = [0u16; CM_LIMIT];
@@ -79,7 +77,6 @@ pub fn map(s: &[u8], plan: &[u8], out: &mut [u8]) -> Mapping
         true,
         &mut nodes,
         &mut expressions,
-        &mut table,
         &mut sections,
         &mut dims,
         &mut cmdims,

@@ -17,7 +17,7 @@ use Rattle.plans.specs.Plan.{q2exp, imCount, imCm}
 use Rattle.plans.specs.Columns.{recordLimit}
 use Rattle.plans.specs.Passed.{names-there}
 use Rattle.exp_dims.specs.Dimension.{expDim}
-use Rattle.exp_dims.specs.Known.{D, Sound, ExpAsks, Gives}
+use Rattle.exp_dims.specs.Known.{unknown, D, Sound, ExpAsks, Gives}
 use Rattle.sections.specs.Sums.{each}
 use Rattle.plan_tables.specs.Tables.{ofColumn, ofIm, packed, ruleOf, rulesOf}
 use Rattle.plan_tables.specs.Cells.{Cells, ImsAsks}
@@ -34,12 +34,12 @@ pub record RulesFrom (t : Tables) (table dims columns : List ℕ) (count : ℕ) 
   pub cells : Cells (t .expressionCount) (fromColumn (columnWord t table dims) (λ e. getD before e 0) columns count k) before rules
 
 module _ {t : Tables} {rank : ℕ → ℕ} {table columns : List ℕ} {count : ℕ} {before : List ℕ} (a : ColumnRulesAsks t rank table columns count before) (dims : List ℕ) where
-  pub rules-begin : RulesFrom t table dims columns count before count (replicate expressionLimit 0) before
+  pub rules-begin : RulesFrom t table dims columns count before count (replicate expressionLimit unknown) before
   rules-begin =
       record {
         sound = record {
-          size = length-replicate {A = ℕ} expressionLimit 0;
-          right = λ e h. inl (getD-replicate {A = ℕ} expressionLimit e 0 0 (omega (arith, h, a .starts .fewExpressions)));
+          size = length-replicate {A = ℕ} expressionLimit unknown;
+          right = λ e h. inl (getD-replicate {A = ℕ} expressionLimit e unknown 0 (omega (arith, h, a .starts .fewExpressions)));
         };
         cells = columns-begin (columnWord t table dims) (λ e. getD before e 0) columns count (a .inside) (cells-begin (t .expressionCount) before (a .full) (a .starts .fewExpressions));
       }

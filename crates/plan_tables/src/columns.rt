@@ -1,5 +1,5 @@
 // The expressions with a temporary column, in the order of their columns.
-use plans::count::NUMBER_LIMIT;
+use frames::count::EXPRESSION_LIMIT;
 use plans::count::ask;
 use plans::count::mark_intermediates;
 use plans::layout::HEAD_SIZE;
@@ -11,6 +11,8 @@ use plans::layout::pu_count;
 use sections::map_section::RECORD_LIMIT;
 ghost use Prim.Native.Nat.{_*_, _<_};
 ghost use mathlib.Core.List.{[]};
+ghost use lib.ListN.{length};
+ghost use Rattle.frames.specs.Order.{expressionLimit};
 ghost use Rattle.plans.specs.Plan.{numberLimit, puCount};
 ghost use Rattle.plans.specs.Columns.{recordLimit, lookups};
 ghost use Rattle.plans.specs.Counting.{Tells, known};
@@ -18,13 +20,8 @@ ghost use Rattle.plan_tables.specs.Listed.{Listed};
 ghost use Rattle.plan_tables.specs.Gathered.{ColumnPut, Fitting, Gathered, ProductsAsked, ProductsGiven, columnsOf};
 
 // Expression e behind the n that are there, unless it is seen.
-fn put_column(
-    seen: &mut [u8; NUMBER_LIMIT],
-    columns: &mut [u16; RECORD_LIMIT],
-    n: usize,
-    e: usize,
-) -> usize
-    requires { ⌜ (e < numberLimit) × (n < recordLimit) ⌝ }
+fn put_column(seen: &mut [u8], columns: &mut [u16; RECORD_LIMIT], n: usize, e: usize) -> usize
+    requires { ⌜ (e < numberLimit) × (e < length (now seen)) × (n < recordLimit) ⌝ }
     ensures { λ r. ⌜ ColumnPut (now (seen .entry)) (now (seen .exit)) (now (columns .entry)) (now (columns .exit)) n e r ⌝ }
 {
     if ask(seen, e) == 0 {
@@ -35,12 +32,8 @@ fn put_column(
 }
 
 // f and t of each pu.
-fn lookup_columns(
-    plan: &[u8],
-    seen: &mut [u8; NUMBER_LIMIT],
-    columns: &mut [u16; RECORD_LIMIT],
-) -> usize
-    requires { ⌜ Fitting (now plan) × Tells (known (now plan) []) (now seen) ⌝ }
+fn lookup_columns(plan: &[u8], seen: &mut [u8], columns: &mut [u16; RECORD_LIMIT]) -> usize
+    requires { ⌜ Fitting (now plan) × Tells expressionLimit (known (now plan) []) (now seen) ⌝ }
     ensures { λ r. ⌜ Gathered (now (plan .entry)) (now (columns .entry)) (2 * puCount (now (plan .entry))) (now (seen .exit)) (now (columns .exit)) r (lookups (now (plan .entry)) (puCount (now (plan .entry)))) ⌝ }
 {
     let count = pu_count(plan);
@@ -58,7 +51,7 @@ fn lookup_columns(
 // num and den of each grand product, after those of the pu.
 fn product_columns(
     plan: &[u8],
-    seen: &mut [u8; NUMBER_LIMIT],
+    seen: &mut [u8],
     columns: &mut [u16; RECORD_LIMIT],
     before: usize,
 ) -> usize
@@ -82,7 +75,7 @@ pub fn column_expressions(plan: &[u8], columns: &mut [u16; RECORD_LIMIT]) -> usi
     requires { ⌜ Fitting (now plan) ⌝ }
     ensures { λ r. ⌜ Listed (now (columns .entry)) (now (columns .exit)) r (columnsOf (now (plan .entry))) ⌝ }
 {
-    let mut seen = [0u8; NUMBER_LIMIT];
+    let mut seen = [0u8; EXPRESSION_LIMIT];
     mark_intermediates(plan, &mut seen);
     let lookups = lookup_columns(plan, &mut seen, columns);
     product_columns(plan, &mut seen, columns, lookups)

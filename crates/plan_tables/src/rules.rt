@@ -1,5 +1,6 @@
 // What fixing makes of each expression.
 use crate::packed::pack;
+use exp_dims::dim::UNKNOWN;
 use exp_dims::dim::get_exp_dim;
 use frames::count::EXPRESSION_LIMIT;
 use frames::tables::NODE_WORDS;
@@ -11,6 +12,7 @@ use plans::layout::number_at;
 use sections::map_section::RECORD_LIMIT;
 ghost use mathlib.Core.Path.{_≡_};
 ghost use mathlib.Core.Bool.{cond};
+ghost use Rattle.pool.specs.Entries.{entriesIn};
 ghost use Rattle.kinds.specs.KindBytes as kind;
 ghost use Rattle.plans.specs.Plan.{imCm};
 ghost use Rattle.plan_tables.specs.Tables.{packed};
@@ -21,16 +23,16 @@ ghost use Rattle.plan_tables.specs.Rules.{ColumnRulesAsked, ColumnRulesG
 fn fill_columns(
     nodes: &[u64; NODE_WORDS],
     expressions: &[u64; EXPRESSION_LIMIT],
-    table: &[u64],
+    table: &[u8],
     cmdims: &[u16],
     columns: &[u16; RECORD_LIMIT],
     count: usize,
     rules: &mut [u64; EXPRESSION_LIMIT],
 )
-    requires { ⌜ ColumnRulesAsked (now nodes) (now expressions) (now table) (now columns) count (now rules) ⌝ }
-    ensures { λ _. ⌜ ColumnRulesGiven (now (nodes .entry)) (now (expressions .entry)) (now (table .entry)) (now (cmdims .entry)) (now (columns .entry)) count (now (rules .entry)) (now (rules .exit)) ⌝ }
+    requires { ⌜ ColumnRulesAsked (now nodes) (now expressions) (entriesIn (now table)) (now columns) count (now rules) ⌝ }
+    ensures { λ _. ⌜ ColumnRulesGiven (now (nodes .entry)) (now (expressions .entry)) (entriesIn (now (table .entry))) (now (cmdims .entry)) (now (columns .entry)) count (now (rules .entry)) (now (rules .exit)) ⌝ }
 {
-    let mut known = [0u64; EXPRESSION_LIMIT];
+    let mut known = [UNKNOWN; EXPRESSION_LIMIT];
     let mut k = count;
     while 0 < k {
         k -= 1;
@@ -69,14 +71,14 @@ pub fn fill_rules(
     plan: &[u8],
     nodes: &[u64; NODE_WORDS],
     expressions: &[u64; EXPRESSION_LIMIT],
-    table: &[u64],
+    table: &[u8],
     cmdims: &[u16],
     columns: &[u16; RECORD_LIMIT],
     count: usize,
     rules: &mut [u64; EXPRESSION_LIMIT],
 )
-    requires { ⌜ RulesAsked (now nodes) (now expressions) (now table) (now plan) (now columns) count (now rules) ⌝ }
-    ensures { λ _. ⌜ RulesGiven (now (nodes .entry)) (now (expressions .entry)) (now (table .entry)) (now (plan .entry)) (now (cmdims .entry)) (now (columns .entry)) count (now (rules .entry)) «in_n» (now (rules .exit)) ⌝ }
+    requires { ⌜ RulesAsked (now nodes) (now expressions) (entriesIn (now table)) (now plan) (now columns) count (now rules) ⌝ }
+    ensures { λ _. ⌜ RulesGiven (now (nodes .entry)) (now (expressions .entry)) (entriesIn (now (table .entry))) (now (plan .entry)) (now (cmdims .entry)) (now (columns .entry)) count (now (rules .entry)) «in_n» (now (rules .exit)) ⌝ }
 {
     let used = columns_in(in_n, count);
     fill_columns(nodes, expressions, table, cmdims, columns, used, rules);

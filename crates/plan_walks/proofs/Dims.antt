@@ -101,7 +101,7 @@ dimensioned-does :
     {g : Given} {ls ls′ : List (List ℕ)} {d : Dimensioned} {y : Walk} → DimensionedIs g ls ls′ d → walkSays y ≡ dimensionedSays d → Does (dimensionWith g ls) ls ls′ y
 dimensioned-does {g} {ls} {d = d} h q = record { says = q ∙ says (dimensions g ls) d (h .says); lists = h .lists ∙ afters ls (dimensions g ls) }
 
-module _ {b w x table cs : List ℕ} (z : Standing b w x table cs) where
+module _ {b w x cs : List ℕ} (z : Standing b w x cs) where
   pub dims-room : z .plan .records ≤ length (z .dims)
   dims-room = omega (arith, z .stands .holds .dimsSize, records-few z)
 

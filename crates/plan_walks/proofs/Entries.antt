@@ -11,7 +11,6 @@ use borrow.Author.Tests.{le-leb, lt-leb}
 use Rattle.meaning.specs.Refusals.{Answer, done, _then_}
 use Rattle.pool.specs.Tabled.{tabled}
 use Rattle.pool.specs.Ranking.{Tabling}
-use Rattle.plans.specs.Plan.{numberLimit, q2expCount}
 use Rattle.plans.specs.Columns.{recordLimit}
 use Rattle.sections.specs.Sections.{widthCount}
 use Rattle.sections.specs.Answer.{MappedIs}
@@ -56,9 +55,9 @@ module _ (domain counter : ℕ) (first i last : List ℕ) where
 stays : (u : Unplanned) (ls : List (List ℕ)) → ls ≡ listsAfter ls (unplannedSays u)
 stays u ls = let r = reason u in sym (ap (listsAfter ls) (r .says Walked))
 
-module _ {s b : List ℕ} {own : Bool} {w x table ss ds cs : List ℕ} {r : Planning} (g : FramesGiven s b own w x table ss ds cs r) where
+module _ {s b : List ℕ} {own : Bool} {w x ss ds cs : List ℕ} {r : Planning} (g : FramesGiven s b own w x ss ds cs r) where
   abbrev Tells : Planning → Type 0
-  Tells y = Told b (Tabling w (g .literals) x (g .nodeCount) (g .expressionCount)) (take (q2expCount b) table) ss ds cs (g .answer) y
+  Tells y = Told b (Tabling w (g .literals) x (g .nodeCount) (g .expressionCount)) ss ds cs (g .answer) y
 
   pub unplanned-walk : {u : Unplanned} (what : Planned → Answer Walked) (ls : List (List ℕ)) → r ≡ planning.Refused u → WalkIs s b own what ls ls (walk.Unplanned u)
   unplanned-walk {u} what ls q =
@@ -82,64 +81,63 @@ module _ {s b : List ℕ} {own : Bool} {w x table ss ds cs : List ℕ} {r : Plan
     counted = told .1 .expressions
 
     abbrev StandsAt : ℕ → Type 0
-    StandsAt m = Stands b (Tabling w (g .literals) x (g .nodeCount) m) (take (q2expCount b) table) ss ds cs k
+    StandsAt m = Stands b (Tabling w (g .literals) x (g .nodeCount) m) ss ds cs k
 
-    pub standing : length table ≡ numberLimit → Standing b w x table cs
-    standing e = record {
+    pub standing : Standing b w x cs
+    standing = record {
       literals = g .literals;
       nodeCount = g .nodeCount;
       sections = ss;
       dims = ds;
       plan = k;
-      tableSize = e;
       stands = subst StandsAt counted (told .1);
     }
 
-    pub in-tables : (e : length table ≡ numberLimit) → Tabled (standing e) ss (k .records)
+    pub in-tables : Tabled standing ss (k .records)
     unfolding standing
-    in-tables e = record { sectionsIs = refl; recordsIs = refl }
+    in-tables = record { sectionsIs = refl; recordsIs = refl }
 
-    pub dims-in : (e : length table ≡ numberLimit) → take (k .records) ds ≡ plannedIn (standing e) .mapping .dims
+    pub dims-in : take (k .records) ds ≡ plannedIn standing .mapping .dims
     unfolding standing
-    dims-in e = dims-are (standing e)
+    dims-in = dims-are standing
 
-    pub dims-fit : length table ≡ numberLimit → k .records ≤ length ds
+    pub dims-fit : k .records ≤ length ds
     unfolding standing
-    dims-fit e = dims-room (standing e)
+    dims-fit = dims-room standing
 
-    pub sections-in : (e : length table ≡ numberLimit) → take (k .records) ss ≡ plannedIn (standing e) .mapping .sections
+    pub sections-in : take (k .records) ss ≡ plannedIn standing .mapping .sections
     unfolding standing
-    sections-in e = standing e .stands .holds .sections
+    sections-in = standing .stands .holds .sections
 
-    pub sections-fit : length table ≡ numberLimit → k .records ≤ length ss
+    pub sections-fit : k .records ≤ length ss
     unfolding standing
-    sections-fit e = omega (arith, standing e .stands .holds .sectionsSize, records-few (standing e))
+    sections-fit = omega (arith, standing .stands .holds .sectionsSize, records-few standing)
 
-    pub records-fit : length table ≡ numberLimit → k .records ≤ recordLimit
+    pub records-fit : k .records ≤ recordLimit
     unfolding standing
-    records-fit e = records-few (standing e)
+    records-fit = records-few standing
 
     -- the positions of the records, where map_section leaves them at the front of a table
     pub placed-in :
-        (e : length table ≡ numberLimit) (rest : List ℕ) {ps ps′ ws ws′ : List ℕ} {y : Mapped} → ps ≡ replicate (k .records) 0 → length ws ≡ widthCount
-        → MappedIs (take (k .records) ss) (take (k .records) ds) ps ps′ ws ws′ y → length ps′ ≡ length ps → Placed (standing e) ss ds (ps′ ++ rest) (k .records)
+        (rest : List ℕ) {ps ps′ ws ws′ : List ℕ} {y : Mapped} → ps ≡ replicate (k .records) 0 → length ws ≡ widthCount
+        → MappedIs (take (k .records) ss) (take (k .records) ds) ps ps′ ws ws′ y → length ps′ ≡ length ps → Placed standing ss ds (ps′ ++ rest) (k .records)
     unfolding standing
-    placed-in e rest {ps′ = ps′} h q m f = record {
+    placed-in rest {ps′ = ps′} h q m f = record {
       tabled = record { sectionsIs = refl; recordsIs = refl };
       dimsIs = refl;
-      positionsAre = front-back (k .records) ps′ rest h f ∙ placed-positions (standing e) refl (sections-in e) (dims-in e) h q m;
+      positionsAre = front-back (k .records) ps′ rest h f ∙ placed-positions standing refl sections-in dims-in h q m;
     }
 
-    answers : (e : length table ≡ numberLimit) → g .answer ≡ done (plannedIn (standing e))
+    answers : g .answer ≡ done (plannedIn standing)
     unfolding standing
-    answers e = answered g q ∙ ap (λ m. done (planned (tabled (Tabling w (g .literals) x (g .nodeCount) m)) (mapped b (tabled (Tabling w (g .literals) x (g .nodeCount) m))))) counted
+    answers = answered g q ∙ ap (λ m. done (planned (tabled (Tabling w (g .literals) x (g .nodeCount) m)) (mapped b (tabled (Tabling w (g .literals) x (g .nodeCount) m))))) counted
 
     pub planned-walk :
-        (e : length table ≡ numberLimit) (what : Planned → Answer Walked) {ls ls′ : List (List ℕ)} {y : Walk}
-        → Does (what (plannedIn (standing e))) ls ls′ y → WalkIs s b own what ls ls′ y
-    planned-walk e what d = record {
-      answer = what (plannedIn (standing e));
-      goes = (g .answer, g .plans, sym (ap (λ (z : Answer Planned). z then what) (answers e)));
+        (what : Planned → Answer Walked) {ls ls′ : List (List ℕ)} {y : Walk}
+        → Does (what (plannedIn standing)) ls ls′ y → WalkIs s b own what ls ls′ y
+    planned-walk what d = record {
+      answer = what (plannedIn standing);
+      goes = (g .answer, g .plans, sym (ap (λ (z : Answer Planned). z then what) answers));
       does = d;
     }
 

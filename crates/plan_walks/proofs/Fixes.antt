@@ -1,17 +1,20 @@
 -- Fixing by a plan that stands in tables.
 -- Assumes nothing.
-use Prim.Native.Nat.{ℕ, _≤_}
+use Prim.Native.Nat.{ℕ, _-_, _*_, _≤_}
 use mathlib.Core.Path.{_≡_, refl, sym, _∙_, ap, subst}
 use mathlib.Core.Bool.{Bool, true, false}
 use mathlib.Core.List.{List, [], _∷_}
 use native.Mathlib.Omega.{arith}
-use lib.ListN.{length, take, replicate}
+use lib.ListN.{length, take, drop, replicate}
 use lib.Seq.{length-take-le}
 use Rattle.meaning.specs.Refusals.{Answer, done, _then_}
 use Rattle.frames.specs.Order.{expressionLimit}
+use Rattle.pool.specs.Entries.{entriesIn}
 use Rattle.pool.specs.Tabled.{tabled}
-use Rattle.plans.specs.Plan.{q2expCount, qDeg}
+use Rattle.plans.specs.Plan.{q2expAt, qDeg}
 use Rattle.plans.specs.Columns.{recordLimit}
+use Rattle.plans.specs.Passed.{names-there, names-below}
+use Rattle.planning.specs.Laws.QTable.{q-table}
 use Rattle.map_records.specs.Mapping.{cm1N, cm4N, twin, mapped}
 use Rattle.map_records.specs.Sizes.{quotients-columns}
 use Rattle.plan_tables.specs.Tables.{numbersIn}
@@ -42,9 +45,13 @@ cms-in-n inN ss {cms} {cms′} {r} e h = subst (λ b. Listed cms cms′ r (cmsOf
 pub cms-in-2ns : (inN : Bool) (ss : List ℕ) {cms cms′ : List ℕ} {r : ℕ} → inN ≡ false → Listed cms cms′ r (numbersIn (twin cm1N) (twin cm4N) 0 ss) → Listed cms cms′ r (cmsOf inN ss)
 cms-in-2ns inN ss {cms} {cms′} {r} e h = subst (λ b. Listed cms cms′ r (cmsOf b ss)) (sym e) h
 
-module _ {b w x table cs : List ℕ} (z : Standing b w x table cs) where
+module _ {b w x cs : List ℕ} (z : Standing b w x cs) where
   pub fitting : Fitting b
-  fitting = (z .stands .ready .planned .whole, z .stands .ready .planned .fits)
+  fitting = (
+    z .stands .ready .planned .whole,
+    z .stands .ready .planned .fits,
+    names-below b (z .stands .ready .starts .fewExpressions) (names-there b (z .plan .expressions) (z .stands .ready .names)),
+  )
 
   columns-are : mapped b (tabled (tables z)) .columns ≡ columnsOf b
   unfolding mapped
@@ -56,11 +63,11 @@ module _ {b w x table cs : List ℕ} (z : Standing b w x table cs) where
   pub records-few : z .plan .records ≤ recordLimit
   records-few = held-few b (tabled (tables z)) (z .stands .ready .planned) (z .stands .holds)
 
-  module _ {before columns : List ℕ} {n : ℕ} (g : Listed before columns n (columnsOf b)) (room : length before ≡ recordLimit) {q : ℕ} (e : q ≡ q2expCount b) where
-    pub rules-asks : {rs : List ℕ} → rs ≡ replicate expressionLimit 0 → rules.RulesAsks b (tables z) (z .stands .rank) (take q table) columns n rs
+  module _ {before columns : List ℕ} {n : ℕ} (g : Listed before columns n (columnsOf b)) (room : length before ≡ recordLimit) {q : ℕ} (e : q ≡ q2expAt b) where
+    pub rules-asks : {rs : List ℕ} → rs ≡ replicate expressionLimit 0 → rules.RulesAsks b (tables z) (z .stands .rank) (entriesIn (take (length b - 2 * q) (drop (2 * q) b))) columns n rs
     rules-asks h = record {
       ready = z .stands .ready;
-      tabling = ap (λ k. take k table) e ∙ z .stands .tabling;
+      tabling = q-table b (z .stands .ready .planned .whole) e;
       counted = g .count;
       listed = listed-front g (omega (arith, columns-few, room));
       cleared = h;
@@ -68,7 +75,7 @@ module _ {b w x table cs : List ℕ} (z : Standing b w x table cs) where
 
     pub rules-given :
         (inN : Bool) {rs rs′ : List ℕ} → rs ≡ replicate expressionLimit 0
-        → rules.RulesGiven w x (take q table) b cs columns n rs inN rs′ → rs′ ≡ rulesIn inN b (plannedIn z)
+        → rules.RulesGiven w x (entriesIn (take (length b - 2 * q) (drop (2 * q) b))) b cs columns n rs inN rs′ → rs′ ≡ rulesIn inN b (plannedIn z)
     rules-given inN h f =
         f (z .literals) (z .nodeCount) (z .plan .expressions) (z .stands .rank) (rules-asks h)
         ∙ rw (h, z .stands .holds .cmDims, sym columns-are)
@@ -136,7 +143,7 @@ module _ {rs cms first i last first′ i′ last′ : List ℕ} {counter : ℕ} 
     lists = rw (g .firstIs, g .iIs, g .lastIs) (stays (proverVerdict rs cms counter first i last) refl);
   }
 
-module _ {b w x table cs : List ℕ} (z : Standing b w x table cs) (inN : Bool) where
+module _ {b w x cs : List ℕ} (z : Standing b w x cs) (inN : Bool) where
   pub fixed-planned :
       {rs cms first i last first′ i′ last′ : List ℕ} {counter : ℕ} {r : Fixed} {y : Walk} → rs ≡ rulesIn inN b (plannedIn z)
       → cms ≡ cmsOf inN (mapped b (tabled (tables z)) .sections) → ProverCodeIs rs cms counter first i last first′ i′ last′ r → walkSays y ≡ fixedSays r

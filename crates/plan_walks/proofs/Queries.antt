@@ -49,7 +49,7 @@ front-back n ps′ rest e h = take-at ps′ rest n (h ∙ ap length e ∙ length
 few-known : (ss : List ℕ) → length ss ≤ recordLimit → known ss ≡ true → known (take (recordLimit + 1) ss) ≡ true
 few-known ss h k = ap known (take-all (recordLimit + 1) ss (omega (arith, h))) ∙ k
 
-module _ {b w x table cs : List ℕ} (z : Standing b w x table cs) where
+module _ {b w x cs : List ℕ} (z : Standing b w x cs) where
   abbrev ss : List ℕ
   ss = plannedIn z .mapping .sections
 
@@ -83,7 +83,7 @@ module _ {b w x table cs : List ℕ} (z : Standing b w x table cs) where
 
 -- ---- trees
 
-module _ {b w x table cs : List ℕ} (z : Standing b w x table cs) {ss ds ps : List ℕ} {n : ℕ} (a : Placed z ss ds ps n) where
+module _ {b w x cs : List ℕ} (z : Standing b w x cs) {ss ds ps : List ℕ} {n : ℕ} (a : Placed z ss ds ps n) where
   pub trees-asked : (length ss ≡ recordLimit) × (n ≤ recordLimit)
   trees-asked = (ap length (sym (a .tabled .sectionsIs)) ∙ z .stands .holds .sectionsSize, subst (λ k. k ≤ recordLimit) (a .tabled .recordsIs) (records-few z))
 
@@ -145,7 +145,7 @@ pub told-as : {r d : Queried} {y : Answer ℕ} → r ≡ d → y ≡ (queriedSay
 told-as e h = h ∙ ap (λ (v : Queried). queriedSays v then λ _. done 0) (sym e)
 
 pub queried-planned :
-    {b w x table cs : List ℕ} (z : Standing b w x table cs) {ts first i last first′ i′ last′ : List ℕ} {r : Queried} {y : Walk} → ts ≡ trees (plannedIn z .mapping)
+    {b w x cs : List ℕ} (z : Standing b w x cs) {ts first i last first′ i′ last′ : List ℕ} {r : Queried} {y : Walk} → ts ≡ trees (plannedIn z .mapping)
     → QueryCodeIs ts first i last first′ i′ last′ r → walkSays y ≡ (queriedSays r then λ _. done 0)
     → Does (queryBy first i last (plannedIn z)) (first ∷ i ∷ last ∷ []) (first′ ∷ i′ ∷ last′ ∷ []) y
 queried-planned z {first = first} {i = i} {last = last} {first′ = first′} {i′ = i′} {last′ = last′} {y = y} e g q =

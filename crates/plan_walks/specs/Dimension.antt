@@ -58,9 +58,9 @@ dimensionedSays dimensioned.Done = done 0
 -- a plan whose records' sections stand in a table, with their dimensions and their number
 abbrev pub DimensionAsked : List ℕ → List ℕ → List ℕ → ℕ → Type 0
 DimensionAsked b ss ds n =
-    (w : List ℕ) × (x : List ℕ) × (table : List ℕ) × (cs : List ℕ) × (z : Standing b w x table cs) × Tabled z ss n × (ds ≡ plannedIn z .mapping .dims)
+    (w : List ℕ) × (x : List ℕ) × (cs : List ℕ) × (z : Standing b w x cs) × Tabled z ss n × (ds ≡ plannedIn z .mapping .dims)
 
 -- for whichever plan they are
 abbrev pub DimensionGiven : List ℕ → List ℕ → List ℕ → ℕ → ℕ → List (List ℕ) → List (List ℕ) → Walk → Type 0
 DimensionGiven b ss ds n d ls ls′ r =
-    (w x table cs : List ℕ) (z : Standing b w x table cs) → Tabled z ss n → ds ≡ plannedIn z .mapping .dims → Does (dimensionBy d ls b (plannedIn z)) ls ls′ r
+    (w x cs : List ℕ) (z : Standing b w x cs) → Tabled z ss n → ds ≡ plannedIn z .mapping .dims → Does (dimensionBy d ls b (plannedIn z)) ls ls′ r

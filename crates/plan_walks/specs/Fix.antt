@@ -42,17 +42,17 @@ FixIs s b domain counter first i last first′ i′ last′ r =
     WalkIs s b (goodSegment domain counter first i last) (fixBy counter first i last (isN domain) b) (first ∷ i ∷ last ∷ []) (first′ ∷ i′ ∷ last′ ∷ []) r
 
 -- ── parts ────────────────────────────────────────────────────────────────────
-abbrev pub PlannedAsked : List ℕ → List ℕ → List ℕ → List ℕ → List ℕ → List ℕ → Type 0
-PlannedAsked b w x table cs rs = Standing b w x table cs × (rs ≡ replicate expressionLimit 0)
+abbrev pub PlannedAsked : List ℕ → List ℕ → List ℕ → List ℕ → List ℕ → Type 0
+PlannedAsked b w x cs rs = Standing b w x cs × (rs ≡ replicate expressionLimit 0)
 
 -- for whichever pool and plan they are
-abbrev pub RulesGiven : Bool → List ℕ → List ℕ → List ℕ → List ℕ → List ℕ → List ℕ → Type 0
-RulesGiven inN b w x table cs rs = (z : Standing b w x table cs) → rs ≡ rulesIn inN b (plannedIn z)
+abbrev pub RulesGiven : Bool → List ℕ → List ℕ → List ℕ → List ℕ → List ℕ → Type 0
+RulesGiven inN b w x cs rs = (z : Standing b w x cs) → rs ≡ rulesIn inN b (plannedIn z)
 
-abbrev pub FixAsked : List ℕ → List ℕ → List ℕ → List ℕ → List ℕ → List ℕ → ℕ → Type 0
-FixAsked b w x table ss cs n = (z : Standing b w x table cs) × Tabled z ss n
+abbrev pub FixAsked : List ℕ → List ℕ → List ℕ → List ℕ → List ℕ → ℕ → Type 0
+FixAsked b w x ss cs n = (z : Standing b w x cs) × Tabled z ss n
 
 abbrev pub FixGiven :
-    Bool → List ℕ → List ℕ → List ℕ → List ℕ → List ℕ → List ℕ → ℕ → ℕ → List ℕ → List ℕ → List ℕ → List ℕ → List ℕ → List ℕ → Walk → Type 0
-FixGiven inN b w x table ss cs n counter first i last first′ i′ last′ r =
-    (z : Standing b w x table cs) → Tabled z ss n → Does (fixBy counter first i last inN b (plannedIn z)) (first ∷ i ∷ last ∷ []) (first′ ∷ i′ ∷ last′ ∷ []) r
+    Bool → List ℕ → List ℕ → List ℕ → List ℕ → List ℕ → ℕ → ℕ → List ℕ → List ℕ → List ℕ → List ℕ → List ℕ → List ℕ → Walk → Type 0
+FixGiven inN b w x ss cs n counter first i last first′ i′ last′ r =
+    (z : Standing b w x cs) → Tabled z ss n → Does (fixBy counter first i last inN b (plannedIn z)) (first ∷ i ∷ last ∷ []) (first′ ∷ i′ ∷ last′ ∷ []) r

@@ -31,17 +31,17 @@ QueryIs s b first i last first′ i′ last′ r =
 
 -- ── parts ────────────────────────────────────────────────────────────────────
 -- a plan whose records stand in tables with their positions
-pub record Placed {b w x table cs : List ℕ} (z : Standing b w x table cs) (ss ds ps : List ℕ) (n : ℕ) : Type 0 where
+pub record Placed {b w x cs : List ℕ} (z : Standing b w x cs) (ss ds ps : List ℕ) (n : ℕ) : Type 0 where
   pub tabled : Tabled z ss n
   pub dimsIs : z .dims ≡ ds
   pub positionsAre : take n ps ≡ positions (plannedIn z .mapping)
 
 abbrev pub QueryAsked : List ℕ → List ℕ → List ℕ → ℕ → Type 0
 QueryAsked ss ds ps n =
-    (b : List ℕ) × (w : List ℕ) × (x : List ℕ) × (table : List ℕ) × (cs : List ℕ) × (z : Standing b w x table cs) × Placed z ss ds ps n
+    (b : List ℕ) × (w : List ℕ) × (x : List ℕ) × (cs : List ℕ) × (z : Standing b w x cs) × Placed z ss ds ps n
 
 -- for whichever plan they are
 abbrev pub QueryGiven : List ℕ → List ℕ → List ℕ → ℕ → List ℕ → List ℕ → List ℕ → List ℕ → List ℕ → List ℕ → Walk → Type 0
 QueryGiven ss ds ps n first i last first′ i′ last′ r =
-    (b w x table cs : List ℕ) (z : Standing b w x table cs) → Placed z ss ds ps n →
+    (b w x cs : List ℕ) (z : Standing b w x cs) → Placed z ss ds ps n →
     Does (queryBy first i last (plannedIn z)) (first ∷ i ∷ last ∷ []) (first′ ∷ i′ ∷ last′ ∷ []) r

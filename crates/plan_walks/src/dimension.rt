@@ -85,7 +85,6 @@ pub fn dimension(
     let well_formed = good_lists(first, i, last);
     let mut nodes = [0u64; NODE_WORDS];
     let mut expressions = [0u64; EXPRESSION_LIMIT];
-    let mut table = [0u64; NUMBER_LIMIT];
     let mut sections = [0u16; RECORD_LIMIT];
     let mut dims = [0u16; RECORD_LIMIT];
     let mut cmdims = [0u16; CM_LIMIT];
@@ -95,7 +94,6 @@ pub fn dimension(
         well_formed,
         &mut nodes,
         &mut expressions,
-        &mut table,
         &mut sections,
         &mut dims,
         &mut cmdims,
@@ -115,7 +113,6 @@ pub fn dimension_first(s: &[u8], plan: &[u8], first: &mut [u8]) -> Walk
     let well_formed = good_list(first);
     let mut nodes = [0u64; NODE_WORDS];
     let mut expressions = [0u64; EXPRESSION_LIMIT];
-    let mut table = [0u64; NUMBER_LIMIT];
     let mut sections = [0u16; RECORD_LIMIT];
     let mut dims = [0u16; RECORD_LIMIT];
     let mut cmdims = [0u16; CM_LIMIT];
@@ -125,7 +122,6 @@ pub fn dimension_first(s: &[u8], plan: &[u8], first: &mut [u8]) -> Walk
         well_formed,
         &mut nodes,
         &mut expressions,
-        &mut table,
         &mut sections,
         &mut dims,
         &mut cmdims,

@@ -12,8 +12,8 @@ use plan_tables::columns::column_expressions;
 use plan_tables::rules::fill_rules;
 use planning::answer::Planning;
 use planning::frames_plan::plan_frames;
-use plans::count::NUMBER_LIMIT;
-use plans::layout::q2exp_count;
+use plans::layout::NUMBER_SIZE;
+use plans::layout::q2exp_at;
 use sections::map_section::RECORD_LIMIT;
 ghost use Rattle.plan_walks.specs.Fix.{RulesGiven, PlannedAsked, FixAsked, FixGiven, FixIs};
 
@@ -22,22 +22,21 @@ fn fill_plan_rules(
     plan: &[u8],
     nodes: &[u64; NODE_WORDS],
     expressions: &[u64; EXPRESSION_LIMIT],
-    table: &[u64],
     cmdims: &[u16],
     rules: &mut [u64; EXPRESSION_LIMIT],
 )
-    requires { ⌜ PlannedAsked (now plan) (now nodes) (now expressions) (now table) (now cmdims) (now rules) ⌝ }
-    ensures { λ _. ⌜ RulesGiven «in_n» (now (plan .entry)) (now (nodes .entry)) (now (expressions .entry)) (now (table .entry)) (now (cmdims .entry)) (now (rules .exit)) ⌝ }
+    requires { ⌜ PlannedAsked (now plan) (now nodes) (now expressions) (now cmdims) (now rules) ⌝ }
+    ensures { λ _. ⌜ RulesGiven «in_n» (now (plan .entry)) (now (nodes .entry)) (now (expressions .entry)) (now (cmdims .entry)) (now (rules .exit)) ⌝ }
 {
     let mut columns = [0u16; RECORD_LIMIT];
     let count = column_expressions(plan, &mut columns);
-    let q = q2exp_count(plan);
+    let at = NUMBER_SIZE * q2exp_at(plan);
     fill_rules(
         in_n,
         plan,
         nodes,
         expressions,
-        &table[..q],
+        &plan[at..],
         cmdims,
         &columns,
         count,
@@ -51,7 +50,6 @@ fn fix_planned(
     plan: &[u8],
     nodes: &[u64; NODE_WORDS],
     expressions: &[u64; EXPRESSION_LIMIT],
-    table: &[u64],
     sections: &[u16; RECORD_LIMIT],
     cmdims: &[u16],
     records: usize,
@@ -60,11 +58,11 @@ fn fix_planned(
     i: &mut [u8],
     last: &mut [u8],
 ) -> Walk
-    requires { ⌜ FixAsked (now plan) (now nodes) (now expressions) (now table) (now sections) (now cmdims) records ⌝ }
-    ensures { λ r. ⌜ FixGiven «in_n» (now (plan .entry)) (now (nodes .entry)) (now (expressions .entry)) (now (table .entry)) (now (sections .entry)) (now (cmdims .entry)) records counter (now (first .entry)) (now (i .entry)) (now (last .entry)) (now (first .exit)) (now (i .exit)) (now (last .exit)) r ⌝ }
+    requires { ⌜ FixAsked (now plan) (now nodes) (now expressions) (now sections) (now cmdims) records ⌝ }
+    ensures { λ r. ⌜ FixGiven «in_n» (now (plan .entry)) (now (nodes .entry)) (now (expressions .entry)) (now (sections .entry)) (now (cmdims .entry)) records counter (now (first .entry)) (now (i .entry)) (now (last .entry)) (now (first .exit)) (now (i .exit)) (now (last .exit)) r ⌝ }
 {
     let mut rules = [0u64; EXPRESSION_LIMIT];
-    fill_plan_rules(in_n, plan, nodes, expressions, table, cmdims, &mut rules);
+    fill_plan_rules(in_n, plan, nodes, expressions, cmdims, &mut rules);
     let mut cms = [0u16; RECORD_LIMIT];
     let n = fill_cms(in_n, sections, records, &mut cms);
     match fix_prover_code(&rules, &cms[..n], counter, first, i, last) {
@@ -93,7 +91,6 @@ pub fn fix(
     let in_n = domain == DOMAIN_N;
     let mut nodes = [0u64; NODE_WORDS];
     let mut expressions = [0u64; EXPRESSION_LIMIT];
-    let mut table = [0u64; NUMBER_LIMIT];
     let mut sections = [0u16; RECORD_LIMIT];
     let mut dims = [0u16; RECORD_LIMIT];
     let mut cmdims = [0u16; CM_LIMIT];
@@ -103,7 +100,6 @@ pub fn fix(
         well_formed,
         &mut nodes,
         &mut expressions,
-        &mut table,
         &mut sections,
         &mut dims,
         &mut cmdims,
@@ -115,7 +111,6 @@ pub fn fix(
                 plan,
                 &nodes,
                 &expressions,
-                &table,
                 &sections,
                 &cmdims,
                 k.records,

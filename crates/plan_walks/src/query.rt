@@ -7,7 +7,6 @@ use map_records::rest::CM_LIMIT;
 use plan_tables::trees::fill_trees;
 use planning::answer::Planning;
 use planning::frames_plan::plan_frames;
-use plans::count::NUMBER_LIMIT;
 use query_fixing::fix_query_code::Queried;
 use query_fixing::fix_query_code::fix_query_code;
 use sections::map_section::RECORD_LIMIT;
@@ -45,7 +44,6 @@ pub fn query(s: &[u8], plan: &[u8], first: &mut [u8], i: &mut [u8], last: &mut [
     let well_formed = good_lists(first, i, last);
     let mut nodes = [0u64; NODE_WORDS];
     let mut expressions = [0u64; EXPRESSION_LIMIT];
-    let mut table = [0u64; NUMBER_LIMIT];
     let mut sections = [0u16; RECORD_LIMIT];
     let mut dims = [0u16; RECORD_LIMIT];
     let mut cmdims = [0u16; CM_LIMIT];
@@ -55,7 +53,6 @@ pub fn query(s: &[u8], plan: &[u8], first: &mut [u8], i: &mut [u8], last: &mut [
         well_formed,
         &mut nodes,
         &mut expressions,
-        &mut table,
         &mut sections,
         &mut dims,
         &mut cmdims,

@@ -81,6 +81,6 @@ module _ {b : List ℕ} {t : Tables} {rank : ℕ → ℕ} {table ss ds cs : List
 
         pub planned-told :
             {z : Bool} → z ≡ someNone (take (m .count) ds′) → z ≡ false
-            → Tells b t table ss′ ds′ cs′ (mapped b (tabled t)) (columned b (tabled t)) (planning.Planned (record { expressions = t .expressionCount; records = m .count; «q_dim» = m .«q_dim» }))
+            → Tells b t ss′ ds′ cs′ (mapped b (tabled t)) (columned b (tabled t)) (planning.Planned (record { expressions = t .expressionCount; records = m .count; «q_dim» = m .«q_dim» }))
         unfolding columned
-        planned-told q y = (rw (sym e ∙ h, sym f ∙ k, tested q ∙ y), record { expressions = refl; rank = rank; ready = ready; tabling = a .tabling; holds = g .holds; quotient = g .quotient })
+        planned-told q y = (rw (sym e ∙ h, sym f ∙ k, tested q ∙ y), record { expressions = refl; rank = rank; ready = ready; holds = g .holds; quotient = g .quotient })

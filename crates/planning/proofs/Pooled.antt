@@ -1,13 +1,13 @@
 -- A pool in tables: the refusals of its shape, or what comes of a pool that has one.
 -- Assumes nothing.
-use Prim.Native.Nat.{ℕ, zero, suc, _+_, _<_, _≤_}
+use Prim.Native.Nat.{ℕ, zero, suc, _+_, _-_, _*_, _<_, _≤_}
 use mathlib.Core.Path.{_≡_, refl, sym, _∙_, ap, subst}
 use mathlib.Core.Bool.{Bool, true, false, cond}
 use mathlib.Core.Option.{Option, none}
 use mathlib.Core.List.{List, [], _∷_, _++_}
 use mathlib.Core.Logic.{_⊎_, inl, inr}
 use native.Mathlib.Omega.{arith}
-use lib.ListN.{take}
+use lib.ListN.{length, take, drop}
 use Rattle.meaning.specs.Trees.{Member}
 use Rattle.meaning.specs.Refusals.{Refusal, Answer, done, refused, _then_}
 use Rattle.meaning.specs.Laws.Tests.{done-not-refused}
@@ -19,13 +19,15 @@ use Rattle.pool.specs.Admission.{shape}
 use Rattle.pool.specs.Verdict.{Ends}
 use Rattle.pool.specs.Tabled.{Tables, tabled}
 use Rattle.pool.specs.Ranking.{Tabling, Starts}
+use Rattle.pool.specs.Entries.{entriesIn}
 use Rattle.pool.specs.Laws.Shape.{Shape, shape-is}
 use Rattle.plans.specs.Plan.{numberAt, q2expAt, q2expCount, q2exp}
 use Rattle.plans.specs.Agreement.{namesThere}
 use Rattle.plans.specs.Passed.{names-there}
 use Rattle.map_records.specs.Mapping.{Mapping}
+use Rattle.planning.specs.Laws.QTable.{q-table}
 use Rattle.planning.specs.Planning.{allThere, planShape, Verdict}
-use Rattle.planning.specs.Answers.{unplannedSays, QTableGiven, ShapeAsked, ReadAsked, PoolAsked, ShapedAsks, Ruled, Tells}
+use Rattle.planning.specs.Answers.{unplannedSays, ShapeAsked, ReadAsked, PoolAsked, ShapedAsks, Ruled, Tells}
 use Rattle.planning.specs.declared.answer.Unplanned.{Unplanned}
 use Rattle.planning.specs.declared.answer.Planning.{Planning}
 use Rattle.planning.specs.declared.answer.Planning.the-variants as planning
@@ -33,13 +35,13 @@ use Rattle.planning.proofs.There.{names-of}
 
 -- ---- a refusal of the shape
 
-pub shape-asked : {b : List ℕ} {c : Counts} {table ss ds cs : List ℕ} → PoolAsked b c table ss ds cs → ShapeAsked b (c .nodes) (c .expressions)
+pub shape-asked : {b : List ℕ} {c : Counts} {ss ds cs : List ℕ} → PoolAsked b c ss ds cs → ShapeAsked b (c .nodes) (c .expressions)
 shape-asked a = record { whole = a .fitting .whole; nodes = a .read .nodes; expressions = a .read .expressions }
 
-module _ (b : List ℕ) (t : Tables) {table ss ds cs : List ℕ} where
+module _ (b : List ℕ) (t : Tables) {ss ds cs : List ℕ} where
   pub shape-told :
       {k : Refusal} {o : Option ℕ} {u : Unplanned} → refused k o ≡ planShape b (tabled t) → refused k o ≡ unplannedSays {A = Mapping} u
-      → Ruled (Verdict b (tabled t)) b t table ss ds cs (planning.Refused u)
+      → Ruled (Verdict b (tabled t)) b t ss ds cs (planning.Refused u)
   shape-told {k} {o} h e = record {
     verdict = refused k o;
     judged = record { refuses = λ r n q. h ∙ q; decides = λ q. absurd (done-not-refused (sym q ∙ sym h)) };
@@ -81,7 +83,7 @@ member-first f m (suc n) h u k = by (member-first f m n (λ i l. h i (omega (ari
     by ih (inl z) = ih z
     by ih (inr z) = subst (λ v. v < m) (sym z) (h n (omega arith))
 
-module _ {b : List ℕ} {c : Counts} {table ss ds cs : List ℕ} (a : PoolAsked b c table ss ds cs) (w x l : List ℕ) (h : done tt ≡ planShape b (tabled (Tabling w l x (c .nodes) (c .expressions)))) where
+module _ {b : List ℕ} {c : Counts} {ss ds cs : List ℕ} (a : PoolAsked b c ss ds cs) (w x l : List ℕ) (h : done tt ≡ planShape b (tabled (Tabling w l x (c .nodes) (c .expressions)))) where
   abbrev t : Tables
   t = Tabling w l x (c .nodes) (c .expressions)
 
@@ -99,21 +101,18 @@ module _ {b : List ℕ} {c : Counts} {table ss ds cs : List ℕ} (a : PoolAsked 
     tabulated = member-first (λ i. numberAt b (q2expAt b + i)) (c .expressions) (q2expCount b) (names-there b (c .expressions) names .ofQ);
   }
 
-  module _ {table′ : List ℕ} (g : QTableGiven b table′) {n : ℕ} (e : n ≡ q2expCount b) where
-    pub shaped-asks : ShapedAsks b t (take n table′) ss ds cs
-    shaped-asks = record {
-      fitting = a .fitting;
-      starts = starts;
-      names = names;
-      tabling = ap (λ k. take k table′) e ∙ g .front;
-      blank = a .read .blank;
-    }
+  pub shaped-asks : {n : ℕ} → n ≡ q2expAt b → ShapedAsks b t (entriesIn (take (length b - 2 * n) (drop (2 * n) b))) ss ds cs
+  shaped-asks e = record {
+    fitting = a .fitting;
+    starts = starts;
+    names = names;
+    tabling = q-table b (a .fitting .whole) e;
+    blank = a .read .blank;
+  }
 
-    pub shaped-told :
-        {ss′ ds′ cs′ : List ℕ} {r : Planning} → Ruled (Ends (tabled t) (q2exp b)) b t (take n table′) ss′ ds′ cs′ r
-        → Ruled (Verdict b (tabled t)) b t (take (q2expCount b) table′) ss′ ds′ cs′ r
-    shaped-told {ss′} {ds′} {cs′} {r} k = subst (λ (j : ℕ). Ruled (Verdict b (tabled t)) b t (take j table′) ss′ ds′ cs′ r) e (record {
-      verdict = k .verdict;
-      judged = record { refuses = λ r n q. absurd (done-not-refused (h ∙ q)); decides = λ q. k .judged };
-      tells = k .tells;
-    })
+  pub shaped-told : {ss′ ds′ cs′ : List ℕ} {r : Planning} → Ruled (Ends (tabled t) (q2exp b)) b t ss′ ds′ cs′ r → Ruled (Verdict b (tabled t)) b t ss′ ds′ cs′ r
+  shaped-told k = record {
+    verdict = k .verdict;
+    judged = record { refuses = λ r n q. absurd (done-not-refused (h ∙ q)); decides = λ q. k .judged };
+    tells = k .tells;
+  }

@@ -20,7 +20,7 @@ use Rattle.pool.specs.Pool.{Pool}
 use Rattle.pool.specs.Numbered.{poolOf}
 use Rattle.pool.specs.Tabled.{Tables, tabled}
 use Rattle.pool.specs.Ranking.{Tabling}
-use Rattle.plans.specs.Plan.{Whole, q2expCount, isPlan}
+use Rattle.plans.specs.Plan.{Whole, isPlan}
 use Rattle.plans.specs.Columns.{fits}
 use Rattle.plans.specs.Passed.{plan-whole, few-records}
 use Rattle.map_records.specs.Mapping.{Mapping, mapped}
@@ -40,8 +40,8 @@ whole b e h = plan-whole b (sym e ∙ h)
 pub fitting : (b : List ℕ) {x : Bool} → x ≡ isPlan b → x ≡ true → {y : Bool} → y ≡ fits b → y ≡ true → Fitting b
 fitting b e h f k = record { whole = whole b e h; fits = few-records b (sym f ∙ k) }
 
-module _ (b : List ℕ) (own : Bool) (t : Tables) {table ss ds cs : List ℕ} where
-  unfit : {k : Refusal} {o : Option ℕ} (u : Unplanned) → argued b own ≡ refused k o → refused k o ≡ unplannedSays {A = Planned} u → Argued b own t table ss ds cs (planning.Refused u)
+module _ (b : List ℕ) (own : Bool) (t : Tables) {ss ds cs : List ℕ} where
+  unfit : {k : Refusal} {o : Option ℕ} (u : Unplanned) → argued b own ≡ refused k o → refused k o ≡ unplannedSays {A = Planned} u → Argued b own t ss ds cs (planning.Refused u)
   unfit {k} {o} u e q = record {
     answer = refused k o;
     unfit = λ k o z. refused-both (sym e ∙ z);
@@ -50,19 +50,19 @@ module _ (b : List ℕ) (own : Bool) (t : Tables) {table ss ds cs : List ℕ} wh
   }
 
   module _ {x : Bool} (e : x ≡ isPlan b) where
-    pub no-plan-told : x ≡ false → Argued b own t table ss ds cs (planning.Refused why.IllFormed)
+    pub no-plan-told : x ≡ false → Argued b own t ss ds cs (planning.Refused why.IllFormed)
     no-plan-told h = unfit why.IllFormed (no-plan b own (sym e ∙ h)) refl
 
     module _ (h : x ≡ true) where
       module _ {y : Bool} (f : y ≡ fits b) where
-        pub too-many-told : y ≡ false → Argued b own t table ss ds cs (planning.Refused why.TooManyRecords)
+        pub too-many-told : y ≡ false → Argued b own t ss ds cs (planning.Refused why.TooManyRecords)
         too-many-told k = unfit why.TooManyRecords (too-many b own (sym e ∙ h) (sym f ∙ k)) refl
 
         module _ (k : y ≡ true) where
-          pub ill-formed-told : own ≡ false → Argued b own t table ss ds cs (planning.Refused why.IllFormed)
+          pub ill-formed-told : own ≡ false → Argued b own t ss ds cs (planning.Refused why.IllFormed)
           ill-formed-told q = unfit why.IllFormed (ill-formed b own (sym e ∙ h) (sym f ∙ k) q) refl
 
-          pub pool-told : own ≡ true → {r : Planning} → Ruled (Verdict b (tabled t)) b t table ss ds cs r → Argued b own t table ss ds cs r
+          pub pool-told : own ≡ true → {r : Planning} → Ruled (Verdict b (tabled t)) b t ss ds cs r → Argued b own t ss ds cs r
           pool-told q {r} g = record {
             answer = g .verdict then λ _. columned b (tabled t) then λ m. done (planned (tabled t) m);
             unfit = λ k o z. absurd (done-not-refused (sym fine ∙ z));
@@ -81,12 +81,12 @@ module _ (b : List ℕ) (own : Bool) (t : Tables) {table ss ds cs : List ℕ} wh
               both (refused k o) = refl
 
               lifted :
-                  (r : Planning) (v : Answer (Unit {0})) → Tells b t table ss ds cs (mapped b (tabled t)) (v then λ _. columned b (tabled t)) r
-                  → Told b t table ss ds cs (v then λ _. columned b (tabled t) then λ m. done (planned (tabled t) m)) r
+                  (r : Planning) (v : Answer (Unit {0})) → Tells b t ss ds cs (mapped b (tabled t)) (v then λ _. columned b (tabled t)) r
+                  → Told b t ss ds cs (v then λ _. columned b (tabled t) then λ m. done (planned (tabled t) m)) r
               lifted (planning.Refused u) v z = sym (both v) ∙ ap onward z ∙ unplanned-then u (λ m. done (planned (tabled t) m))
               lifted (planning.Planned k) v z = (sym (both v) ∙ ap onward (z .0), z .1)
 
-pub pool-asked : {b : List ℕ} {c : Counts} {table ss ds cs : List ℕ} → Fitting b → ReadAsked c table ss ds cs → PoolAsked b c table ss ds cs
+pub pool-asked : {b : List ℕ} {c : Counts} {ss ds cs : List ℕ} → Fitting b → ReadAsked c ss ds cs → PoolAsked b c ss ds cs
 pool-asked f a = record { fitting = f; read = a }
 
 -- ---- frames
@@ -95,17 +95,17 @@ module _ {s : List ℕ} {u : frames.Tables} {r : Reading} (g : Fills s r u) {c :
   read-is : done (inputIn u c) ≡ reading s
   read-is = ap (held u) (sym q) ∙ g .answer
 
-  pub read-asked : {x y tb ss ds cs : List ℕ} → FramesAsked x y tb ss ds cs → ReadAsked c tb ss ds cs
-  read-asked a = let w = read-within s u c read-is in record { nodes = w .nodes; expressions = w .expressions; tableSize = a .tableSize; blank = a .blank }
+  pub read-asked : {x y ss ds cs : List ℕ} → FramesAsked x y ss ds cs → ReadAsked c ss ds cs
+  read-asked a = let w = read-within s u c read-is in record { nodes = w .nodes; expressions = w .expressions; blank = a .blank }
 
 pool-is : (u : frames.Tables) (c : Counts) → poolOf (inputIn u c) ≡ tabled (Tabling (u .nodes) (u .literals) (u .expressions) (c .nodes) (c .expressions))
 unfolding inputIn tabled
 pool-is u c = refl
 
-module _ {s : List ℕ} {u : frames.Tables} {r : Reading} (g : Fills s r u) (b : List ℕ) (own : Bool) {table ss ds cs : List ℕ} where
+module _ {s : List ℕ} {u : frames.Tables} {r : Reading} (g : Fills s r u) (b : List ℕ) (own : Bool) {ss ds cs : List ℕ} where
   unread :
       {k : Refusal} {o : Option ℕ} (v : Unplanned) → refused k o ≡ reading s → refused k o ≡ unplannedSays {A = Planned} v
-      → FramesGiven s b own (u .nodes) (u .expressions) table ss ds cs (planning.Refused v)
+      → FramesGiven s b own (u .nodes) (u .expressions) ss ds cs (planning.Refused v)
   unread {k} {o} v h e = record {
     answer = refused k o;
     plans = record {
@@ -119,14 +119,14 @@ module _ {s : List ℕ} {u : frames.Tables} {r : Reading} (g : Fills s r u) (b :
     told = e;
   }
 
-  pub malformed-told : {z : Blame} → r ≡ was.Malformed z → FramesGiven s b own (u .nodes) (u .expressions) table ss ds cs (planning.Refused (why.Malformed z))
+  pub malformed-told : {z : Blame} → r ≡ was.Malformed z → FramesGiven s b own (u .nodes) (u .expressions) ss ds cs (planning.Refused (why.Malformed z))
   malformed-told {z} q = unread (why.Malformed z) (ap (held u) (sym q) ∙ g .answer) refl
 
-  pub limit-told : {z : Blame} → r ≡ was.Full z → FramesGiven s b own (u .nodes) (u .expressions) table ss ds cs (planning.Refused (why.Limit z))
+  pub limit-told : {z : Blame} → r ≡ was.Full z → FramesGiven s b own (u .nodes) (u .expressions) ss ds cs (planning.Refused (why.Limit z))
   limit-told {z} q = unread (why.Limit z) (ap (held u) (sym q) ∙ g .answer) refl
 
   module _ {c : Counts} (q : r ≡ was.Read c) where
-    pub read-told : {p : Planning} → ReadGiven b own (u .nodes) (u .expressions) c table ss ds cs p → FramesGiven s b own (u .nodes) (u .expressions) table ss ds cs p
+    pub read-told : {p : Planning} → ReadGiven b own (u .nodes) (u .expressions) c ss ds cs p → FramesGiven s b own (u .nodes) (u .expressions) ss ds cs p
     read-told h =
         let k = h (u .literals) in
         record {

@@ -45,7 +45,7 @@ module _ {b : List ℕ} {t : Tables} {table ss ds cs : List ℕ} (a : ShapedAsks
 
     pub refused-told :
         {v : admit.Verdict} {k : Refusal} {o : Option ℕ} {u : Unplanned} {ss′ ds′ cs′ : List ℕ} → r .verdict ≡ v → verdictSays v ≡ refused k o → refused k o ≡ unplannedSays {A = Mapping} u
-        → Ruled (Ends (tabled t) (q2exp b)) b t table ss′ ds′ cs′ (planning.Refused u)
+        → Ruled (Ends (tabled t) (q2exp b)) b t ss′ ds′ cs′ (planning.Refused u)
     refused-told {k = k} {o = o} q e f = record {
       verdict = refused k o;
       judged = subst (λ (x : Answer (Unit {0})). Ends (tabled t) (q2exp b) x) (ap verdictSays q ∙ e) ends;
@@ -71,6 +71,6 @@ module _ {b : List ℕ} {t : Tables} {table ss ds cs : List ℕ} (a : ShapedAsks
       admitted-asks = record { fitting = a .fitting; starts = a .starts; ranked = ranked-by .1; names = a .names; tabling = a .tabling; blank = a .blank }
 
       pub admitted-told :
-          {ss′ ds′ cs′ : List ℕ} {x : Planning} → Tells b t table ss′ ds′ cs′ (mapped b (tabled t)) (columned b (tabled t)) x
-          → Ruled (Ends (tabled t) (q2exp b)) b t table ss′ ds′ cs′ x
+          {ss′ ds′ cs′ : List ℕ} {x : Planning} → Tells b t ss′ ds′ cs′ (mapped b (tabled t)) (columned b (tabled t)) x
+          → Ruled (Ends (tabled t) (q2exp b)) b t ss′ ds′ cs′ x
       admitted-told h = record { verdict = done tt; judged = admitted; tells = h }

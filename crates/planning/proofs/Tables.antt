@@ -1,29 +1,16 @@
--- The table of q numbers and the test of dimensions, one entry after the other.
+-- The test of dimensions, one record after the other.
 -- Assumes nothing.
 use Prim.Native.Nat.{ℕ, zero, suc, _+_, _≤_, _<_}
-use mathlib.Core.Path.{_≡_, refl, sym, _∙_, ap, subst}
+use mathlib.Core.Path.{_≡_, refl, sym, subst}
 use mathlib.Core.Bool.{Bool, true, false, _||_, true≢false}
-use mathlib.Core.List.{List, [], _∷_, _++_}
+use mathlib.Core.List.{List, [], _∷_}
 use native.Mathlib.Omega.{arith}
 use native.Mathlib.Nat.{not-suc-le-zero, le-of-suc-le-suc}
 use native.Mathlib.Numerals.{add-one}
-use lib.ListN.{length, getD, set, take}
+use lib.ListN.{length, getD, take}
 use lib.Dec.{eqb}
 use borrow.Author.Tests.{eq-eqb, ne-eqb}
-use Rattle.frames.specs.Tables.{first}
-use Rattle.map_records.specs.Held.{take-more}
 use Rattle.map_records.specs.Mapping.{someNone}
-
-first-suc : (f : ℕ → ℕ) (i : ℕ) → first f (i + 1) ≡ first f i ++ (f i ∷ [])
-unfolding first
-first-suc f i = rw (add-one i)
-
-pub front-none : (f : ℕ → ℕ) (l : List ℕ) → take 0 l ≡ first f 0
-unfolding first
-front-none f l = refl
-
-pub front-next : (f : ℕ → ℕ) (l : List ℕ) (i a : ℕ) → i < length l → take i l ≡ first f i → a ≡ f i → take (i + 1) (set l i a) ≡ first f (i + 1)
-front-next f l i a h q e = take-more l i a h q ∙ rw e (sym (first-suc f i))
 
 pub some-none-at : (l : List ℕ) (i n : ℕ) → i < n → i < length l → getD l i 0 ≡ 0 → someNone (take n l) ≡ true
 unfolding someNone
@@ -57,6 +44,3 @@ none-first l = refl
 
 pub none-ends : (l : List ℕ) {n i : ℕ} → i ≤ n → n ≤ i → someNone (take i l) ≡ false → false ≡ someNone (take n l)
 none-ends l {n} {i} a b q = let e : i ≡ n = omega arith in sym (subst (λ k. someNone (take k l) ≡ false) e q)
-
-pub front-ends : (f : ℕ → ℕ) (l : List ℕ) {n i : ℕ} → i ≤ n → n ≤ i → take i l ≡ first f i → take n l ≡ first f n
-front-ends f l {n} {i} a b q = let e : i ≡ n = omega arith in subst (λ k. take k l ≡ first f k) e q

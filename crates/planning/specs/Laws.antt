@@ -2,3 +2,4 @@
 pub mod Argued
 pub mod Drawn
 pub mod Known
+pub mod QTable

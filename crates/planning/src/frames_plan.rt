@@ -21,13 +21,12 @@ fn plan_read(
     nodes: &[u64; NODE_WORDS],
     expressions: &[u64; EXPRESSION_LIMIT],
     c: Counts,
-    table: &mut [u64],
     sections: &mut [u16; RECORD_LIMIT],
     dims: &mut [u16; RECORD_LIMIT],
     cmdims: &mut [u16],
 ) -> Planning
-    requires { ⌜ ReadAsked c (now table) (now sections) (now dims) (now cmdims) ⌝ }
-    ensures { λ r. ⌜ ReadGiven (now (plan .entry)) «well_formed» (now (nodes .entry)) (now (expressions .entry)) c (now (table .exit)) (now (sections .exit)) (now (dims .exit)) (now (cmdims .exit)) r ⌝ }
+    requires { ⌜ ReadAsked c (now sections) (now dims) (now cmdims) ⌝ }
+    ensures { λ r. ⌜ ReadGiven (now (plan .entry)) «well_formed» (now (nodes .entry)) (now (expressions .entry)) c (now (sections .exit)) (now (dims .exit)) (now (cmdims .exit)) r ⌝ }
 {
     if !is_plan(plan) {
         return Planning::Refused(Unplanned::IllFormed);
@@ -38,24 +37,23 @@ fn plan_read(
     if !well_formed {
         return Planning::Refused(Unplanned::IllFormed);
     }
-    plan_pool(plan, nodes, expressions, c, table, sections, dims, cmdims)
+    plan_pool(plan, nodes, expressions, c, sections, dims, cmdims)
 }
 
-// `well_formed` says that what else an entry point takes is no malformed record. All tables are the entry point's own: they hold the pool, the expressions
-// of q numbers, and the records and dimensions of the plan where there is one.
+// `well_formed` says that what else an entry point takes is no malformed record. All tables are the entry point's own: they hold the pool, and the
+// records and dimensions of the plan where there is one.
 pub fn plan_frames(
     s: &[u8],
     plan: &[u8],
     well_formed: bool,
     nodes: &mut [u64; NODE_WORDS],
     expressions: &mut [u64; EXPRESSION_LIMIT],
-    table: &mut [u64],
     sections: &mut [u16; RECORD_LIMIT],
     dims: &mut [u16; RECORD_LIMIT],
     cmdims: &mut [u16],
 ) -> Planning
-    requires { ⌜ FramesAsked (now nodes) (now expressions) (now table) (now sections) (now dims) (now cmdims) ⌝ }
-    ensures { λ r. ⌜ FramesGiven (now (s .entry)) (now (plan .entry)) «well_formed» (now (nodes .exit)) (now (expressions .exit)) (now (table .exit)) (now (sections .exit)) (now (dims .exit)) (now (cmdims .exit)) r ⌝ }
+    requires { ⌜ FramesAsked (now nodes) (now expressions) (now sections) (now dims) (now cmdims) ⌝ }
+    ensures { λ r. ⌜ FramesGiven (now (s .entry)) (now (plan .entry)) «well_formed» (now (nodes .exit)) (now (expressions .exit)) (now (sections .exit)) (now (dims .exit)) (now (cmdims .exit)) r ⌝ }
 {
     let mut literals = [0u64; NODE_LIMIT];
     let mut requests = [0u64; REQUEST_LIMIT];
@@ -69,7 +67,6 @@ pub fn plan_frames(
                 nodes,
                 expressions,
                 c,
-                table,
                 sections,
                 dims,
                 cmdims,

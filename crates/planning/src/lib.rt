@@ -2,6 +2,5 @@
 pub mod answer;
 pub mod frames_plan;
 pub mod pool_plan;
-mod q_table;
 mod records;
 mod shape;

@@ -2,7 +2,6 @@
 use crate::answer::Plan;
 use crate::answer::Planning;
 use crate::answer::Unplanned;
-use crate::q_table::fill_q_table;
 use crate::records::some_none;
 use crate::shape::plan_shape;
 use frames::count::Counts;
@@ -11,11 +10,13 @@ use frames::tables::NODE_WORDS;
 use map_records::all::map_all;
 use plans::agree::bits_good;
 use plans::agree::counts_agree;
-use plans::layout::q2exp_count;
+use plans::layout::NUMBER_SIZE;
+use plans::layout::q2exp_at;
 use pool::admit::Shape;
 use pool::admit::Verdict;
 use pool::admit::ranked;
 use sections::map_section::RECORD_LIMIT;
+ghost use Rattle.pool.specs.Entries.{entriesIn};
 ghost use Rattle.planning.specs.Answers.{AdmittedAsked, AdmittedGiven, ShapedAsked, ShapedGiven, PoolAsked, PoolGiven};
 
 // An admitted pool: 16, 11 and 12.
@@ -23,14 +24,14 @@ fn plan_admitted(
     plan: &[u8],
     nodes: &[u64; NODE_WORDS],
     expressions: &[u64; EXPRESSION_LIMIT],
-    table: &[u64],
+    table: &[u8],
     m: usize,
     sections: &mut [u16; RECORD_LIMIT],
     dims: &mut [u16; RECORD_LIMIT],
     cmdims: &mut [u16],
 ) -> Planning
-    requires { ⌜ AdmittedAsked (now plan) (now nodes) (now expressions) (now table) m (now sections) (now dims) (now cmdims) ⌝ }
-    ensures { λ r. ⌜ AdmittedGiven (now (plan .entry)) (now (nodes .entry)) (now (expressions .entry)) (now (table .entry)) m (now (sections .entry)) (now (dims .entry)) (now (cmdims .entry)) (now (sections .exit)) (now (dims .exit)) (now (cmdims .exit)) r ⌝ }
+    requires { ⌜ AdmittedAsked (now plan) (now nodes) (now expressions) (entriesIn (now table)) m (now sections) (now dims) (now cmdims) ⌝ }
+    ensures { λ r. ⌜ AdmittedGiven (now (plan .entry)) (now (nodes .entry)) (now (expressions .entry)) (entriesIn (now (table .entry))) m (now (sections .entry)) (now (dims .entry)) (now (cmdims .entry)) (now (sections .exit)) (now (dims .exit)) (now (cmdims .exit)) r ⌝ }
 {
     if !bits_good(plan) {
         return Planning::Refused(Unplanned::BitCounts);
@@ -55,14 +56,14 @@ fn plan_shaped(
     plan: &[u8],
     nodes: &[u64; NODE_WORDS],
     expressions: &[u64; EXPRESSION_LIMIT],
-    table: &[u64],
+    table: &[u8],
     m: usize,
     sections: &mut [u16; RECORD_LIMIT],
     dims: &mut [u16; RECORD_LIMIT],
     cmdims: &mut [u16],
 ) -> Planning
-    requires { ⌜ ShapedAsked (now plan) (now nodes) (now expressions) (now table) m (now sections) (now dims) (now cmdims) ⌝ }
-    ensures { λ r. ⌜ ShapedGiven (now (plan .entry)) (now (nodes .entry)) (now (expressions .entry)) (now (table .entry)) m (now (sections .entry)) (now (dims .entry)) (now (cmdims .entry)) (now (sections .exit)) (now (dims .exit)) (now (cmdims .exit)) r ⌝ }
+    requires { ⌜ ShapedAsked (now plan) (now nodes) (now expressions) (entriesIn (now table)) m (now sections) (now dims) (now cmdims) ⌝ }
+    ensures { λ r. ⌜ ShapedGiven (now (plan .entry)) (now (nodes .entry)) (now (expressions .entry)) (entriesIn (now (table .entry))) m (now (sections .entry)) (now (dims .entry)) (now (cmdims .entry)) (now (sections .exit)) (now (dims .exit)) (now (cmdims .exit)) r ⌝ }
 {
     let admission = ranked(nodes, expressions, table, m);
     let verdict = admission.verdict;
@@ -77,31 +78,29 @@ fn plan_shaped(
     }
 }
 
-// The tables of records are the caller's, with every dimension of a cm 0; that of q numbers is filled on the way.
+// The tables of records are the caller's, with every dimension of a cm 0. The expressions of q numbers are read where they stand, at the plan's end.
 pub fn plan_pool(
     plan: &[u8],
     nodes: &[u64; NODE_WORDS],
     expressions: &[u64; EXPRESSION_LIMIT],
     c: Counts,
-    table: &mut [u64],
     sections: &mut [u16; RECORD_LIMIT],
     dims: &mut [u16; RECORD_LIMIT],
     cmdims: &mut [u16],
 ) -> Planning
-    requires { ⌜ PoolAsked (now plan) c (now table) (now sections) (now dims) (now cmdims) ⌝ }
-    ensures { λ r. ⌜ PoolGiven (now (plan .entry)) (now (nodes .entry)) (now (expressions .entry)) c (now (table .exit)) (now (sections .exit)) (now (dims .exit)) (now (cmdims .exit)) r ⌝ }
+    requires { ⌜ PoolAsked (now plan) c (now sections) (now dims) (now cmdims) ⌝ }
+    ensures { λ r. ⌜ PoolGiven (now (plan .entry)) (now (nodes .entry)) (now (expressions .entry)) c (now (sections .exit)) (now (dims .exit)) (now (cmdims .exit)) r ⌝ }
 {
     match plan_shape(plan, nodes, expressions, c.nodes, c.expressions) {
         Shape::ChildCount(i) => Planning::Refused(Unplanned::ChildCount(i)),
         Shape::NotThere(i) => Planning::Refused(Unplanned::NotThere(i)),
         Shape::LostRoot => Planning::Refused(Unplanned::Lost),
         Shape::Fine => {
-            fill_q_table(plan, table);
             plan_shaped(
                 plan,
                 nodes,
                 expressions,
-                &table[..q2exp_count(plan)],
+                &plan[NUMBER_SIZE * q2exp_at(plan)..],
                 c.expressions,
                 sections,
                 dims,

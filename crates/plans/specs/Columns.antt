@@ -40,6 +40,10 @@ module _ (b : List ℕ) where
   abbrev pub pairRecords : ℕ
   pairRecords = 2 * cm1 b + 4 * puCount b + 2 * productCount b + 2 * imCount b + 2 * qDeg b + 2
 
+  -- no more than the expressions that are named
+  abbrev pub mostColumns : ℕ
+  mostColumns = 2 * (puCount b + productCount b)
+
   abbrev pub recordCount : ℕ
   recordCount = pairRecords + length columns
 

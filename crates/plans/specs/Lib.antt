@@ -11,3 +11,4 @@ pub mod Fails
 pub mod Exactly
 pub mod Passed
 pub mod Places
+pub mod Q2exp

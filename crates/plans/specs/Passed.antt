@@ -90,6 +90,18 @@ module _ (b : List ℕ) where
       constraint = ltb-true (cExp b) m (and-second (every (q2expThere b m) (q2expCount b)) _ last);
     }
 
+  -- a pool of no more than a limit
+  pub names-below : {m limit : ℕ} → m ≤ limit → NamesThere m → NamesThere limit
+  names-below l h = record {
+    f = λ i g. let k = h .f i g in omega (arith, k, l);
+    t = λ i g. let k = h .t i g in omega (arith, k, l);
+    num = λ i g. let k = h .num i g in omega (arith, k, l);
+    den = λ i g. let k = h .den i g in omega (arith, k, l);
+    im = λ i g. let k = h .im i g in omega (arith, k, l);
+    ofQ = λ i g. let k = h .ofQ i g in omega (arith, k, l);
+    constraint = let k = h .constraint in omega (arith, k, l);
+  }
+
   -- ---- bits and counts
 
   pub record BitsIn : Type 0 where

@@ -11,12 +11,11 @@ use crate::layout::product_count;
 use crate::layout::pu_count;
 use crate::layout::q_deg_of;
 ghost use mathlib.Core.Path.{_≡_};
-ghost use mathlib.Core.Bool.{false};
-ghost use mathlib.Core.List.{[]};
 ghost use Prim.Native.Nat.{_*_, _<_};
+ghost use lib.ListN.{length};
 ghost use Rattle.plans.specs.Plan.{Is, Headed, Whole, numberLimit, puCount};
-ghost use Rattle.plans.specs.Columns.{lookups, columns, pairRecords, fits};
-ghost use Rattle.plans.specs.Counting.{Tells, Asked, Counted, LookupsAsked, ProductsAsked, known};
+ghost use Rattle.plans.specs.Columns.{lookups, columns, pairRecords, mostColumns, fits};
+ghost use Rattle.plans.specs.Counting.{Asked, Counted, MarkAsked, MarkGiven, LookupsAsked, ProductsAsked};
 
 const RECORD_LIMIT: usize = 4096;
 
@@ -25,6 +24,9 @@ const CM_RECORDS: usize = 2;
 
 // A pu has two cm, h1 and h2, besides that of its grand product.
 const LOOKUP_CMS: usize = 2;
+
+// f and t of a pu, num and den of a grand product.
+const NAMED: usize = 2;
 
 // That of q and that of f.
 const LAST_RECORDS: usize = 2;
@@ -44,10 +46,18 @@ fn pair_records(plan: &[u8]) -> usize
     CM_RECORDS * (cm1_of(plan) + stage2 + stage3 + q_deg_of(plan)) + LAST_RECORDS
 }
 
-// The intermediates are seen, so that none gets a column.
-pub fn mark_intermediates(plan: &[u8], seen: &mut [u8; NUMBER_LIMIT])
-    requires { ⌜ Whole (now plan) × Tells (λ _. false) (now seen) ⌝ }
-    ensures { λ _. ⌜ Tells (known (now (plan .entry)) []) (now (seen .exit)) ⌝ }
+// There are no more temporary columns than expressions that the pu and the grand products name.
+fn most_columns(plan: &[u8]) -> usize
+    requires { ⌜ Headed (now plan) ⌝ }
+    ensures { λ r. ⌜ Is r (mostColumns (now (plan .entry))) (8 * numberLimit) ⌝ }
+{
+    NAMED * (pu_count(plan) + product_count(plan))
+}
+
+// The intermediates are seen, so that none gets a column. `seen` has a byte for each expression that is named.
+pub fn mark_intermediates(plan: &[u8], seen: &mut [u8])
+    requires { ⌜ MarkAsked (now plan) (now seen) ⌝ }
+    ensures { λ _. ⌜ MarkGiven (now (plan .entry)) (now (seen .entry)) (now (seen .exit)) ⌝ }
 {
     let n = im_count(plan);
     let at = im_at(plan);
@@ -60,8 +70,8 @@ pub fn mark_intermediates(plan: &[u8], seen: &mut [u8; NUMBER_LIMIT])
 }
 
 // How many columns an expression adds.
-pub fn ask(seen: &mut [u8; NUMBER_LIMIT], e: usize) -> usize
-    requires { ⌜ e < numberLimit ⌝ }
+pub fn ask(seen: &mut [u8], e: usize) -> usize
+    requires { ⌜ e < length (now seen) ⌝ }
     ensures { λ r. ⌜ Asked (now (seen .entry)) e r (now (seen .exit)) ⌝ }
 {
     if seen[e] == SEEN {
@@ -72,9 +82,9 @@ pub fn ask(seen: &mut [u8; NUMBER_LIMIT], e: usize) -> usize
 }
 
 // The columns of f and t of each pu.
-fn count_lookups(plan: &[u8], seen: &mut [u8; NUMBER_LIMIT]) -> usize
+fn count_lookups(plan: &[u8], seen: &mut [u8]) -> usize
     requires { ⌜ LookupsAsked (now plan) (now seen) ⌝ }
-    ensures { λ r. ⌜ Counted (now (plan .entry)) (lookups (now (plan .entry)) (puCount (now (plan .entry)))) r (2 * numberLimit) (now (seen .exit)) ⌝ }
+    ensures { λ r. ⌜ Counted numberLimit (now (plan .entry)) (lookups (now (plan .entry)) (puCount (now (plan .entry)))) r (2 * numberLimit) (now (seen .exit)) ⌝ }
 {
     let n = pu_count(plan);
     let mut count: usize = 0;
@@ -89,9 +99,9 @@ fn count_lookups(plan: &[u8], seen: &mut [u8; NUMBER_LIMIT]) -> usize
 }
 
 // With those of num and den of each grand product, after so many of the pu.
-fn count_products(plan: &[u8], seen: &mut [u8; NUMBER_LIMIT], before: usize) -> usize
+fn count_products(plan: &[u8], seen: &mut [u8], before: usize) -> usize
     requires { ⌜ ProductsAsked (now plan) before (now seen) ⌝ }
-    ensures { λ r. ⌜ Counted (now (plan .entry)) (columns (now (plan .entry))) r (8 * numberLimit) (now (seen .exit)) ⌝ }
+    ensures { λ r. ⌜ Counted numberLimit (now (plan .entry)) (columns (now (plan .entry))) r (8 * numberLimit) (now (seen .exit)) ⌝ }
 {
     let n = product_count(plan);
     let mut count = before;
@@ -105,7 +115,8 @@ fn count_products(plan: &[u8], seen: &mut [u8; NUMBER_LIMIT], before: usize) -> 
     count
 }
 
-// At most 4,096 records. Where those that are no temporary column's are too many already, no expression is looked at: the loops are short.
+// At most 4,096 records. Where those that are no temporary column's are too many already, or there is room for any columns, no expression is looked at: the
+// loops are short.
 pub fn fits(plan: &[u8]) -> bool
     requires { ⌜ Whole (now plan) ⌝ }
     ensures { λ r. ⌜ r ≡ fits (now (plan .entry)) ⌝ }
@@ -113,6 +124,9 @@ pub fn fits(plan: &[u8]) -> bool
     let pairs = pair_records(plan);
     if RECORD_LIMIT < pairs {
         return false;
+    }
+    if pairs + most_columns(plan) <= RECORD_LIMIT {
+        return true;
     }
     let mut seen = [0u8; NUMBER_LIMIT];
     mark_intermediates(plan, &mut seen);

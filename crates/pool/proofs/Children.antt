@@ -89,18 +89,21 @@ module _ (t : Tables) (table : List ℕ) where
         pub q-past : length table ≤ q → Gives t table s s done (Ranked s i)
         q-past l = still t table (a .state) (q-nowhere p table (a .state .shaped) i inside (λ u. 2 ≤ getD s u 0) (kind-is ∙ h) (ap (nth table) id-is ∙ nth-past table q l))
 
-        module _ (l : q < length table) where
-          leads-q : (Q : ℕ → Type 0) → Leads t table Q i ↔ Q (getD table q 0)
-          leads-q Q = q-leads p table (a .state .shaped) i inside Q (kind-is ∙ h) (ap (nth table) id-is ∙ nth-get table q l)
+        module _ (l : q < length table) {e : ℕ} (ee : e ≡ getD table q 0) where
+          led : nth table (x .id) ≡ some e
+          led = ap (nth table) id-is ∙ nth-get table q l ∙ ap some (sym ee)
 
-          pub q-asks : AsksVisit t table s done (getD table q 0)
+          leads-q : (Q : ℕ → Type 0) → Leads t table Q i ↔ Q e
+          leads-q Q = q-leads p table (a .state .shaped) i inside Q (kind-is ∙ h) led
+
+          pub q-asks : AsksVisit t table s done e
           q-asks = record {
             state = a .state;
-            there = a .state .tabulated (getD table q 0) (nth-member table q (nth-get table q l));
+            there = a .state .tabulated e (nth-member table (x .id) led);
             follows = leads-q (Follows t table s) .0 (a .follows);
           }
 
-          pub q-gives : {s′ : List ℕ} {r : ℕ} → Gives t table s s′ r (2 ≤ getD s′ (getD table q 0) 0) → Gives t table s s′ r (Ranked s′ i)
+          pub q-gives : {s′ : List ℕ} {r : ℕ} → Gives t table s s′ r (2 ≤ getD s′ e 0) → Gives t table s s′ r (Ranked s′ i)
           q-gives {s′} g = regoal (leads-q (λ u. 2 ≤ getD s′ u 0) .1) g
 
       -- any other leaf

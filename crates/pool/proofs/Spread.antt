@@ -36,8 +36,8 @@ module _ (w table : List ℕ) (i : ℕ) {k : ℕ} (ke : k ≡ kindIn w i) where
     pub q-lost : length table ≤ q → none ≡ leadIn w table i
     q-lost l = rw (sym ke ∙ h, sym qe) (sym (nth-past table q l))
 
-    pub q-lead : q < length table → some (getD table q 0) ≡ leadIn w table i
-    q-lead l = rw (sym ke ∙ h, sym qe) (sym (nth-get table q l))
+    pub q-lead : q < length table → {e : ℕ} → e ≡ getD table q 0 → some e ≡ leadIn w table i
+    q-lead l {e} ee = rw (sym ke ∙ h, sym qe) (ap some ee ∙ sym (nth-get table q l))
 
   pub no-lead : (k ≡ kind.exp → ⊥) → (k ≡ kind.q → ⊥) → none ≡ leadIn w table i
   no-lead n m = rw (← ke, ne-eqb k kind.exp n, ne-eqb k kind.q m)

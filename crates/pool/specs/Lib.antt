@@ -1,4 +1,5 @@
 pub mod Words
+pub mod Entries
 pub mod Pool
 pub mod Trees
 pub mod Shaped

@@ -14,6 +14,7 @@ use frames::tables::NODE_WORDS;
 ghost use mathlib.Core.Path.{_≡_};
 ghost use Rattle.frames.specs.Order.{nodeLimit, expressionLimit};
 ghost use Prim.Native.Nat.{_≤_};
+ghost use Rattle.pool.specs.Entries.{entriesIn};
 ghost use Rattle.pool.specs.Ranking.{AllAsked};
 ghost use Rattle.pool.specs.Admitting.{ShapeGiven, RankedGiven, Fits, AdmitGiven, bare};
 
@@ -79,11 +80,11 @@ pub fn shape_of(
 pub fn ranked(
     nodes: &[u64; NODE_WORDS],
     expressions: &[u64; EXPRESSION_LIMIT],
-    table: &[u64],
+    table: &[u8],
     m: usize,
 ) -> Admission
-    requires { ⌜ AllAsked (now nodes) (now expressions) (now table) m ⌝ }
-    ensures { λ r. ⌜ RankedGiven (now (nodes .entry)) (now (expressions .entry)) (now (table .entry)) m r ⌝ }
+    requires { ⌜ AllAsked (now nodes) (now expressions) (entriesIn (now table)) m ⌝ }
+    ensures { λ r. ⌜ RankedGiven (now (nodes .entry)) (now (expressions .entry)) (entriesIn (now (table .entry))) m r ⌝ }
 {
     let ranking = rank_all(nodes, expressions, table, m);
     let ranks = ranking.ranks;
@@ -110,12 +111,12 @@ fn refused(verdict: Verdict) -> Admission
 pub fn admit(
     nodes: &[u64; NODE_WORDS],
     expressions: &[u64; EXPRESSION_LIMIT],
-    table: &[u64],
+    table: &[u8],
     n: usize,
     m: usize,
 ) -> Admission
-    requires { ⌜ Fits (now table) n m ⌝ }
-    ensures { λ r. ⌜ AdmitGiven (now (nodes .entry)) (now (expressions .entry)) (now (table .entry)) n m r ⌝ }
+    requires { ⌜ Fits (entriesIn (now table)) n m ⌝ }
+    ensures { λ r. ⌜ AdmitGiven (now (nodes .entry)) (now (expressions .entry)) (entriesIn (now (table .entry))) n m r ⌝ }
 {
     match shape_of(nodes, expressions, n, m) {
         Shape::ChildCount(i) => refused(Verdict::ChildCount(i)),

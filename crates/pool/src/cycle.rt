@@ -1,4 +1,6 @@
 // The smallest leaf on a cycle, of a pool that has one: for each expression, those that it reaches, and of their leaves the smallest that leads to it.
+use crate::entries::entry_at;
+use crate::entries::entry_count;
 use crate::shape::Found;
 use crate::words::child;
 use crate::words::id;
@@ -12,6 +14,7 @@ use kinds::kind::Kind;
 ghost use mathlib.Core.Path.{_≡_};
 ghost use Prim.Native.Nat.{_<_, _≤_};
 ghost use Rattle.frames.specs.Order.{nodeLimit, expressionLimit};
+ghost use Rattle.pool.specs.Entries.{entriesIn};
 ghost use Rattle.pool.specs.Admission.{first};
 ghost use Rattle.pool.specs.Shapes.{foundAt};
 ghost use Rattle.pool.specs.Ranking.{AllAsked};
@@ -22,9 +25,9 @@ const REACHED: u8 = 1;
 const FOLLOWED: u8 = 2;
 
 // The expression that a leaf leads to.
-pub fn lead(nodes: &[u64; NODE_WORDS], table: &[u64], i: usize) -> Found
+pub fn lead(nodes: &[u64; NODE_WORDS], table: &[u8], i: usize) -> Found
     requires { ⌜ i < nodeLimit ⌝ }
-    ensures { λ r. ⌜ foundAt r ≡ leadIn (now (nodes .entry)) (now (table .entry)) i ⌝ }
+    ensures { λ r. ⌜ foundAt r ≡ leadIn (now (nodes .entry)) (entriesIn (now (table .entry))) i ⌝ }
 {
     let kind = kind_at(nodes, i);
     if kind == Kind::EXP {
@@ -32,10 +35,10 @@ pub fn lead(nodes: &[u64; NODE_WORDS], table: &[u64], i: usize) -> Found
     }
     if kind == Kind::Q {
         let q = id(nodes, i);
-        if table.len() <= q {
+        if entry_count(table) <= q {
             return Found::Nothing;
         }
-        return Found::At(table[q] as usize);
+        return Found::At(entry_at(table, q));
     }
     Found::Nothing
 }
@@ -52,14 +55,14 @@ fn mark(marks: &mut [u8; EXPRESSION_LIMIT], v: usize)
 // A leaf marks where it leads to. The least of `least` and the leaf, where it leads to the target.
 fn mark_leaf(
     nodes: &[u64; NODE_WORDS],
-    table: &[u64],
+    table: &[u8],
     marks: &mut [u8; EXPRESSION_LIMIT],
     target: usize,
     least: usize,
     i: usize,
 ) -> usize
-    requires { ⌜ LeafAsked (now nodes) (now table) i ⌝ }
-    ensures { λ r. ⌜ LeafGiven (now (nodes .entry)) (now (table .entry)) target i (now (marks .entry)) least (now (marks .exit)) r ⌝ }
+    requires { ⌜ LeafAsked (now nodes) (entriesIn (now table)) i ⌝ }
+    ensures { λ r. ⌜ LeafGiven (now (nodes .entry)) (entriesIn (now (table .entry))) target i (now (marks .entry)) least (now (marks .exit)) r ⌝ }
 {
     let Found::At(v) = lead(nodes, table, i) else {
         return least;
@@ -77,14 +80,14 @@ fn mark_leaf(
 // The leaves of a tree, from left to right.
 fn mark_tree(
     nodes: &[u64; NODE_WORDS],
-    table: &[u64],
+    table: &[u8],
     marks: &mut [u8; EXPRESSION_LIMIT],
     target: usize,
     least: usize,
     i: usize,
 ) -> usize
-    requires { ⌜ SpreadAsked (now nodes) (now table) i ⌝ }
-    ensures { λ r. ⌜ SpreadGiven (now (nodes .entry)) (now (table .entry)) target i (now (marks .entry)) least (now (marks .exit)) r ⌝ }
+    requires { ⌜ SpreadAsked (now nodes) (entriesIn (now table)) i ⌝ }
+    ensures { λ r. ⌜ SpreadGiven (now (nodes .entry)) (entriesIn (now (table .entry))) target i (now (marks .entry)) least (now (marks .exit)) r ⌝ }
 {
     let count = count_at(nodes, i);
     if count == 0 {
@@ -120,13 +123,13 @@ fn first_reached(marks: &[u8; EXPRESSION_LIMIT], m: usize) -> Found
 fn least_back(
     nodes: &[u64; NODE_WORDS],
     expressions: &[u64; EXPRESSION_LIMIT],
-    table: &[u64],
+    table: &[u8],
     m: usize,
     target: usize,
     least: usize,
 ) -> usize
-    requires { ⌜ BackAsked (now nodes) (now expressions) (now table) m target ⌝ }
-    ensures { λ r. ⌜ BackGiven (now (nodes .entry)) (now (expressions .entry)) (now (table .entry)) m target least r ⌝ }
+    requires { ⌜ BackAsked (now nodes) (now expressions) (entriesIn (now table)) m target ⌝ }
+    ensures { λ r. ⌜ BackGiven (now (nodes .entry)) (now (expressions .entry)) (entriesIn (now (table .entry))) m target least r ⌝ }
 {
     let mut marks = [0u8; EXPRESSION_LIMIT];
     let mut found = least;
@@ -151,11 +154,11 @@ fn least_back(
 pub fn first_on_cycle(
     nodes: &[u64; NODE_WORDS],
     expressions: &[u64; EXPRESSION_LIMIT],
-    table: &[u64],
+    table: &[u8],
     m: usize,
 ) -> usize
-    requires { ⌜ AllAsked (now nodes) (now expressions) (now table) m ⌝ }
-    ensures { λ r. ⌜ CycleGiven (now (nodes .entry)) (now (expressions .entry)) (now (table .entry)) m r ⌝ }
+    requires { ⌜ AllAsked (now nodes) (now expressions) (entriesIn (now table)) m ⌝ }
+    ensures { λ r. ⌜ CycleGiven (now (nodes .entry)) (now (expressions .entry)) (entriesIn (now (table .entry))) m r ⌝ }
 {
     let mut least = NODE_LIMIT;
     let mut e = 0;

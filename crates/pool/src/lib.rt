@@ -1,6 +1,7 @@
 // Pools: admission, and ranks of expressions.
 pub mod admit;
 pub mod cycle;
+pub mod entries;
 pub mod number;
 pub mod rank;
 pub mod shape;

@@ -48,13 +48,7 @@ pub fn number_of(s: &[u8]) -> u8
         Reading::Malformed(_) => MALFORMED,
         Reading::Full(_) => FULL,
         Reading::Read(c) => {
-            let admission = admit(
-                &nodes,
-                &expressions,
-                &requests[0..0],
-                c.nodes,
-                c.expressions,
-            );
+            let admission = admit(&nodes, &expressions, &s[0..0], c.nodes, c.expressions);
             let verdict = admission.verdict;
             verdict_number(verdict)
         }
@@ -79,13 +73,7 @@ pub fn number_of_text(text: &[u8]) -> u8
         Reading::Malformed(_) => MALFORMED,
         Reading::Full(_) => FULL,
         Reading::Read(c) => {
-            let admission = admit(
-                &nodes,
-                &expressions,
-                &requests[0..0],
-                c.nodes,
-                c.expressions,
-            );
+            let admission = admit(&nodes, &expressions, &text[0..0], c.nodes, c.expressions);
             let verdict = admission.verdict;
             verdict_number(verdict)
         }

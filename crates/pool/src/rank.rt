@@ -1,4 +1,6 @@
 // Ranks expressions from leaf to leaf, depth first, and finds a walk that comes back to where it began.
+use crate::entries::entry_at;
+use crate::entries::entry_count;
 use crate::words::child;
 use crate::words::id;
 use crate::words::root;
@@ -9,6 +11,7 @@ use frames::tables::kind_at;
 use kinds::kind::Kind;
 ghost use mathlib.Core.Path.{_≡_};
 ghost use lib.ListN.{length};
+ghost use Rattle.pool.specs.Entries.{entriesIn};
 ghost use Rattle.pool.specs.Ranking.{VisitAsked, VisitGiven, WalkAsked, WalkGiven, AllAsked, AllGiven};
 
 const REACHED: u64 = 1;
@@ -22,13 +25,13 @@ pub const CYCLE: usize = EXPRESSION_LIMIT + 1;
 fn visit(
     nodes: &[u64; NODE_WORDS],
     expressions: &[u64; EXPRESSION_LIMIT],
-    table: &[u64],
+    table: &[u8],
     ranks: &mut [u64; EXPRESSION_LIMIT],
     done: usize,
     e: usize,
 ) -> usize
-    requires { ⌜ VisitAsked (now nodes) (now expressions) (now table) (now ranks) done e ⌝ }
-    ensures { λ r. ⌜ VisitGiven (now (nodes .entry)) (now (expressions .entry)) (now (table .entry)) (now (ranks .entry)) (now (ranks .exit)) done e r ⌝ }
+    requires { ⌜ VisitAsked (now nodes) (now expressions) (entriesIn (now table)) (now ranks) done e ⌝ }
+    ensures { λ r. ⌜ VisitGiven (now (nodes .entry)) (now (expressions .entry)) (entriesIn (now (table .entry))) (now (ranks .entry)) (now (ranks .exit)) done e r ⌝ }
 {
     let rank = ranks[e];
     if RANKED <= rank {
@@ -50,13 +53,13 @@ fn visit(
 fn walk(
     nodes: &[u64; NODE_WORDS],
     expressions: &[u64; EXPRESSION_LIMIT],
-    table: &[u64],
+    table: &[u8],
     ranks: &mut [u64; EXPRESSION_LIMIT],
     done: usize,
     i: usize,
 ) -> usize
-    requires { ⌜ WalkAsked (now nodes) (now expressions) (now table) (now ranks) done i ⌝ }
-    ensures { λ r. ⌜ WalkGiven (now (nodes .entry)) (now (expressions .entry)) (now (table .entry)) (now (ranks .entry)) (now (ranks .exit)) done i r ⌝ }
+    requires { ⌜ WalkAsked (now nodes) (now expressions) (entriesIn (now table)) (now ranks) done i ⌝ }
+    ensures { λ r. ⌜ WalkGiven (now (nodes .entry)) (now (expressions .entry)) (entriesIn (now (table .entry))) (now (ranks .entry)) (now (ranks .exit)) done i r ⌝ }
 {
     let kind = kind_at(nodes, i);
     if kind == Kind::EXP {
@@ -64,10 +67,10 @@ fn walk(
     }
     if kind == Kind::Q {
         let q = id(nodes, i);
-        if table.len() <= q {
+        if entry_count(table) <= q {
             return done;
         }
-        return visit(nodes, expressions, table, ranks, done, table[q] as usize);
+        return visit(nodes, expressions, table, ranks, done, entry_at(table, q));
     }
     let count = count_at(nodes, i);
     if count == 0 {
@@ -100,11 +103,11 @@ pub struct Ranking {
 pub fn rank_all(
     nodes: &[u64; NODE_WORDS],
     expressions: &[u64; EXPRESSION_LIMIT],
-    table: &[u64],
+    table: &[u8],
     m: usize,
 ) -> Ranking
-    requires { ⌜ AllAsked (now nodes) (now expressions) (now table) m ⌝ }
-    ensures { λ r. ⌜ AllGiven (now (nodes .entry)) (now (expressions .entry)) (now (table .entry)) m (r .cyclic) (r .ranks) ⌝ }
+    requires { ⌜ AllAsked (now nodes) (now expressions) (entriesIn (now table)) m ⌝ }
+    ensures { λ r. ⌜ AllGiven (now (nodes .entry)) (now (expressions .entry)) (entriesIn (now (table .entry))) m (r .cyclic) (r .ranks) ⌝ }
 {
     let mut ranks = [0u64; EXPRESSION_LIMIT];
     let mut done: usize = 0;

@@ -69,7 +69,7 @@ pub fn whole_run(
     requires { ⌜ WholeAsked (now nodes) (now expressions) (now requests) c ⌝ }
     ensures { λ r. ⌜ WholeGiven (now (nodes .entry)) (now (expressions .entry)) (now (requests .entry)) (now (list .entry)) (now (list .exit)) c r ⌝ }
 {
-    let no_table = [0u64; 0];
+    let no_table = [0u8; 0];
     let admission = admit(nodes, expressions, &no_table, c.nodes, c.expressions);
     let verdict = admission.verdict;
     match verdict {

@@ -5,7 +5,6 @@ use mathlib.Core.Path.{_≡_, refl, sym, _∙_, ap, subst}
 use mathlib.Core.Bool.{Bool, true, false}
 use mathlib.Core.Option.{Option, none}
 use mathlib.Core.List.{List}
-use lib.ListN.{take}
 use Rattle.meaning.specs.Refusals.{Refusal, Answer, done, refused, _then_}
 use Rattle.meaning.specs.Laws.Tests.{done-not-refused}
 use Rattle.frames.specs.Order.{Input}
@@ -14,7 +13,6 @@ use Rattle.pool.specs.Numbered.{poolOf}
 use Rattle.pool.specs.Tabled.{tabled}
 use Rattle.pool.specs.Ranking.{Tabling}
 use Rattle.pool.specs.Laws.Tabled.{expression-count}
-use Rattle.plans.specs.Plan.{q2expCount}
 use Rattle.plans.specs.Agreement.{namesThere, bitsGood}
 use Rattle.map_records.specs.Mapping.{Mapping, mapped}
 use Rattle.planning.specs.Planning.{columned, argued, Planned, planned, Judged, Plans}
@@ -56,9 +54,9 @@ module _ {b : List ℕ} {own : Bool} {x : Answer Input} {a : Answer Planned} {z 
 
 -- ---- what planning of frames gives
 
-module _ {s b : List ℕ} {own : Bool} {w x table ss ds cs : List ℕ} {r : Planning} (g : FramesGiven s b own w x table ss ds cs r) where
+module _ {s b : List ℕ} {own : Bool} {w x ss ds cs : List ℕ} {r : Planning} (g : FramesGiven s b own w x ss ds cs r) where
   abbrev Tells : Planning → Type 0
-  Tells y = Told b (Tabling w (g .literals) x (g .nodeCount) (g .expressionCount)) (take (q2expCount b) table) ss ds cs (g .answer) y
+  Tells y = Told b (Tabling w (g .literals) x (g .nodeCount) (g .expressionCount)) ss ds cs (g .answer) y
 
   -- the pool that was read
   abbrev pub poolIn : Pool

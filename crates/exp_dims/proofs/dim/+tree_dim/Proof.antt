@@ -1,3 +1,4 @@
+use Rattle.exp_dims.proofs.Trees.{room, nowhere-gives, exp-room, some-levels, seen-low, seen-gives, root-asks, root-less, root-gives, asks0, less0, one-gives, asks1, less1, two-gives, asks2, less2, three-gives}
 -- `exp_dims::dim::tree_dim` meets its contract: each need is one lemma of proofs/Trees.antt. The measure is the levels that are left, then the node.
 -- Assumes nothing.
 use Prim.Native.Nat.{_+_, _*_}
@@ -5,13 +6,14 @@ use mathlib.Core.Path.{refl, sym, ap, _∙_}
 use native.Mathlib.Omega.{arith}
 use borrow.Author.Needs.{needs}
 use Rattle.pool.specs.Shapes.{foundAt}
-use Rattle.exp_dims.proofs.Trees.{room, nowhere-gives, exp-room, some-levels, seen-low, seen-gives, root-asks, root-less, root-gives, asks0, less0, one-gives, asks1, less1, two-gives, asks2, less2, three-gives}
+use Rattle.exp_dims.proofs.Trees.{room, nowhere-gives, exp-room, some-levels, seen-gives, root-asks, root-less, root-gives, asks0, less0, one-gives, asks1, less1, two-gives, asks2, less2, three-gives}
 use Prim.Native.Nat.{ℕ, _<_}
 use borrow.Fn.Kinds.{In}
 use borrow.Fn.PlainCycle.{Measures, is, falls, and}
 use Rattle.exp_dims.proofs.dim.tree_dim.Reads as tree-dim
 use Rattle.exp_dims.proofs.dim.tree_dim.Kinds as tree-dim-kinds
 use Rattle.exp_dims.proofs.dim.+tree_dim.Lts-tree_dim as tree-dim-lts
+use Rattle.exp_dims.proofs.dim.kept.Reads as kept-reads
 use Rattle.exp_dims.proofs.leaf.larger.Reads as larger-reads
 use Rattle.exp_dims.proofs.leaf.leaf_dim.Reads as leaf-dim-reads
 use Rattle.frames.proofs.tables.count_at.Reads as count-at-reads
@@ -32,7 +34,7 @@ tree-dim-below t =
     and 5 tree-dim-kinds.ps (falls 5 tree-dim-kinds.ps _<_ μ-tree-dim t) tree-dim.Pre
 
 abbrev tree-dim-claims : ℕ → tree-dim-lts.Claims
-tree-dim-claims t = (count-at-reads.Asked, count-at-reads.Learnt, lead-reads.Asked, lead-reads.Learnt, leaf-dim-reads.Asked, leaf-dim-reads.Learnt, root-reads.Asked, root-reads.Learnt, tree-dim-below t, tree-dim.Post, child-reads.Asked, child-reads.Learnt, larger-reads.Asked, larger-reads.Learnt)
+tree-dim-claims t = (count-at-reads.Asked, count-at-reads.Learnt, lead-reads.Asked, lead-reads.Learnt, leaf-dim-reads.Asked, leaf-dim-reads.Learnt, root-reads.Asked, root-reads.Learnt, tree-dim-below t, tree-dim.Post, kept-reads.Asked, kept-reads.Learnt, child-reads.Asked, child-reads.Learnt, larger-reads.Asked, larger-reads.Learnt)
 
 tree-dim-count-at-requires : (t : ℕ) → tree-dim-lts.Need-count-at-requires (tree-dim-claims t) (tree-dim-at t) tree-dim.Post
 tree-dim-count-at-requires t c κs = room (c .before .before .pre .1 .4)
@@ -52,14 +54,8 @@ tree-dim-leaf-dim-requires t c κs = room (c .before .before .before .before .be
 tree-dim-returns : (t : ℕ) → tree-dim-lts.Need-returns (tree-dim-claims t) (tree-dim-at t) tree-dim.Post
 tree-dim-returns t c = λ l n m rank a. nowhere-gives a (c .before .before .before .before .before .count-at .ensures) (c .before .before .before .before .if1 .taken) (ap foundAt (sym (c .before .enum-told .given .1)) ∙ c .before .before .before .lead .ensures) (c .leaf-dim .ensures)
 
-tree-dim-mul-seen : (t : ℕ) → tree-dim-lts.Need-mul-seen (tree-dim-claims t) (tree-dim-at t) tree-dim.Post
-tree-dim-mul-seen t c = omega (arith, exp-room (c .before .before .before .before .before .before .before .before .pre .1 .4) (c .before .before .before .before .before .count-at .ensures) (c .before .before .before .before .if1 .taken) (ap foundAt (sym (c .before .e .given .1)) ∙ c .before .before .before .lead .ensures))
-
 tree-dim-element-copy-out-seen : (t : ℕ) → tree-dim-lts.Need-element-copy-out-seen (tree-dim-claims t) (tree-dim-at t) tree-dim.Post
 tree-dim-element-copy-out-seen t c = exp-room (c .before .before .before .before .before .before .before .before .pre .1 .4) (c .before .before .before .before .before .count-at .ensures) (c .before .before .before .before .if1 .taken) (ap foundAt (sym (c .before .e .given .1)) ∙ c .before .before .before .lead .ensures)
-
-tree-dim-sub-result : (t : ℕ) → tree-dim-lts.Need-sub-result (tree-dim-claims t) (tree-dim-at t) tree-dim.Post
-tree-dim-sub-result t c = search needs
 
 tree-dim-cast-result : (t : ℕ) → tree-dim-lts.Need-cast-result (tree-dim-claims t) (tree-dim-at t) tree-dim.Post
 tree-dim-cast-result t c = omega (arith, seen-low (c .before .before .before .before .before .before .before .before .before .before .pre .1 .4) (c .before .before .before .before .before .before .before .count-at .ensures) (c .before .before .before .before .before .before .if1 .taken) (ap foundAt (sym (c .before .before .before .e .given .1)) ∙ c .before .before .before .before .before .lead .ensures) refl (c .if2 .taken))
@@ -76,20 +72,14 @@ tree-dim-sub-tree-dim t c = some-levels (c .before .before .before .before .befo
 tree-dim-tree-dim-requires : (t : ℕ) → tree-dim-lts.Need-tree-dim-requires (tree-dim-claims t) (tree-dim-at t) tree-dim.Post
 tree-dim-tree-dim-requires t c κs = let P = c .before .before .before .before .before .before .before .before .before .before .before .before .pre in let a = P .1 .4 in let h = ap foundAt (sym (c .before .before .before .before .before .e .given .1)) ∙ c .before .before .before .before .before .before .before .lead .ensures in (omega (arith, P .0, root-less a (c .before .before .before .before .before .before .before .before .before .count-at .ensures) (c .before .before .before .before .before .before .before .before .if1 .taken) h (c .before .root .ensures)), (P .1 .0, P .1 .1, P .1 .2, P .1 .3, root-asks a (c .before .before .before .before .before .before .before .before .before .count-at .ensures) (c .before .before .before .before .before .before .before .before .if1 .taken) h (c .before .root .ensures)))
 
-tree-dim-cast-known : (t : ℕ) → tree-dim-lts.Need-cast-known (tree-dim-claims t) (tree-dim-at t) tree-dim.Post
-tree-dim-cast-known t c = search needs
-
-tree-dim-add-known : (t : ℕ) → tree-dim-lts.Need-add-known (tree-dim-claims t) (tree-dim-at t) tree-dim.Post
-tree-dim-add-known t c = omega (arith, c .tree-dim .ok)
-
-tree-dim-mul-known : (t : ℕ) → tree-dim-lts.Need-mul-known (tree-dim-claims t) (tree-dim-at t) tree-dim.Post
-tree-dim-mul-known t c = omega (arith, exp-room (c .before .before .before .before .before .before .before .before .before .before .before .before .before .pre .1 .4) (c .before .before .before .before .before .before .before .before .before .before .count-at .ensures) (c .before .before .before .before .before .before .before .before .before .if1 .taken) (ap foundAt (sym (c .before .before .before .before .before .before .e .given .1)) ∙ c .before .before .before .before .before .before .before .before .lead .ensures))
+tree-dim-kept-requires : (t : ℕ) → tree-dim-lts.Need-kept-requires (tree-dim-claims t) (tree-dim-at t) tree-dim.Post
+tree-dim-kept-requires t c κs = tt
 
 tree-dim-element-write-known : (t : ℕ) → tree-dim-lts.Need-element-write-known (tree-dim-claims t) (tree-dim-at t) tree-dim.Post
-tree-dim-element-write-known t c = exp-room (c .before .before .before .before .before .before .before .before .before .before .before .before .before .pre .1 .4) (c .before .before .before .before .before .before .before .before .before .before .count-at .ensures) (c .before .before .before .before .before .before .before .before .before .if1 .taken) (ap foundAt (sym (c .before .before .before .before .before .before .e .given .1)) ∙ c .before .before .before .before .before .before .before .before .lead .ensures)
+tree-dim-element-write-known t c = exp-room (c .before .before .before .before .before .before .before .before .before .before .before .before .before .before .pre .1 .4) (c .before .before .before .before .before .before .before .before .before .before .before .count-at .ensures) (c .before .before .before .before .before .before .before .before .before .before .if1 .taken) (ap foundAt (sym (c .before .before .before .before .before .before .before .e .given .1)) ∙ c .before .before .before .before .before .before .before .before .before .lead .ensures)
 
 tree-dim-returns-3 : (t : ℕ) → tree-dim-lts.Need-returns-3 (tree-dim-claims t) (tree-dim-at t) tree-dim.Post
-tree-dim-returns-3 t c = λ l n m rank a. root-gives a (c .before .before .before .before .before .before .before .before .before .before .count-at .ensures) (c .before .before .before .before .before .before .before .before .before .if1 .taken) (ap foundAt (sym (c .before .before .before .before .before .before .e .given .1)) ∙ c .before .before .before .before .before .before .before .before .lead .ensures) (c .before .before .root .ensures) (omega (arith, c .tree-dim .ok)) (c .tree-dim .ensures l n m rank (root-asks a (c .before .before .before .before .before .before .before .before .before .before .count-at .ensures) (c .before .before .before .before .before .before .before .before .before .if1 .taken) (ap foundAt (sym (c .before .before .before .before .before .before .e .given .1)) ∙ c .before .before .before .before .before .before .before .before .lead .ensures) (c .before .before .root .ensures)))
+tree-dim-returns-3 t c = λ l n m rank a. root-gives a (c .before .before .before .before .before .before .before .before .before .before .before .count-at .ensures) (c .before .before .before .before .before .before .before .before .before .before .if1 .taken) (ap foundAt (sym (c .before .before .before .before .before .before .before .e .given .1)) ∙ c .before .before .before .before .before .before .before .before .before .lead .ensures) (c .before .before .before .root .ensures) (c .kept .ensures) (c .before .tree-dim .ensures l n m rank (root-asks a (c .before .before .before .before .before .before .before .before .before .before .before .count-at .ensures) (c .before .before .before .before .before .before .before .before .before .before .if1 .taken) (ap foundAt (sym (c .before .before .before .before .before .before .before .e .given .1)) ∙ c .before .before .before .before .before .before .before .before .before .lead .ensures) (c .before .before .before .root .ensures)))
 
 tree-dim-child-requires : (t : ℕ) → tree-dim-lts.Need-child-requires (tree-dim-claims t) (tree-dim-at t) tree-dim.Post
 tree-dim-child-requires t c κs = room (c .before .before .before .before .pre .1 .4)
@@ -137,17 +127,13 @@ pub +tree-dim-spec : {M : Type 1} → statement M
     (tree-dim-enum-told t)
     (tree-dim-leaf-dim-requires t)
     (tree-dim-returns t)
-    (tree-dim-mul-seen t)
     (tree-dim-element-copy-out-seen t)
-    (tree-dim-sub-result t)
     (tree-dim-cast-result t)
     (tree-dim-returns-2 t)
     (tree-dim-root-requires t)
     (tree-dim-sub-tree-dim t)
     (tree-dim-tree-dim-requires t)
-    (tree-dim-cast-known t)
-    (tree-dim-add-known t)
-    (tree-dim-mul-known t)
+    (tree-dim-kept-requires t)
     (tree-dim-element-write-known t)
     (tree-dim-returns-3 t)
     (tree-dim-child-requires t)

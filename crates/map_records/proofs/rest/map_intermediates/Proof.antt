@@ -3,6 +3,7 @@ use Prim.Native.Nat.{ℕ, _+_, _*_, _≤_, _-_}
 use mathlib.Core.Path.{refl, sym, _∙_}
 use mathlib.Core.List.{List}
 use native.Mathlib.Omega.{arith}
+use Rattle.pool.specs.Entries.{entriesIn}
 use Rattle.pool.specs.Tabled.{tabled}
 use Rattle.pool.specs.Ranking.{Tabling}
 use Rattle.plans.specs.Plan.{imCount}
@@ -18,7 +19,7 @@ use Rattle.map_records.proofs.rest.map_intermediates.Tie as tie
 
 abbrev Inv-loop : tie.InvT-loop
 Inv-loop plan nodes expressions table sections₀ dims₀ cmdims₀ before count at z i₀ sections dims cmdims i =
-    (i ≤ imCount plan) × ((l : List ℕ) (k m : ℕ) (rank : ℕ → ℕ) → ImAsks plan (Tabling nodes l expressions k m) rank table sections₀ dims₀ cmdims₀ before → Holds sections dims cmdims (before + 2 * i) (intermediates plan (tabled (Tabling nodes l expressions k m)) i))
+    (i ≤ imCount plan) × ((l : List ℕ) (k m : ℕ) (rank : ℕ → ℕ) → ImAsks plan (Tabling nodes l expressions k m) rank (entriesIn table) sections₀ dims₀ cmdims₀ before → Holds sections dims cmdims (before + 2 * i) (intermediates plan (tabled (Tabling nodes l expressions k m)) i))
 
 abbrev μ-loop : tie.MeasureT-loop
 μ-loop plan nodes expressions table sections₀ dims₀ cmdims₀ before count at z i₀ sections dims cmdims i =

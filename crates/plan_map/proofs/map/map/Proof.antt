@@ -9,11 +9,8 @@ use Rattle.plan_map.proofs.map.map.Tie as tie
 slice-aggregate-plan-frames : tie.Need-slice-aggregate-plan-frames
 slice-aggregate-plan-frames c = search needs
 
-slice-aggregate-plan-frames-2 : tie.Need-slice-aggregate-plan-frames-2
-slice-aggregate-plan-frames-2 c = search needs
-
 plan-frames-requires : tie.Need-plan-frames-requires
-plan-frames-requires c κs = record { nodes = refl; expressions = refl; tableSize = refl; blank = record { sections = refl; dims = refl; cmDims = refl } }
+plan-frames-requires c κs = record { nodes = refl; expressions = refl; blank = record { sections = refl; dims = refl; cmDims = refl } }
 
 enum-known-u : tie.Need-enum-known-u
 enum-known-u c = search needs
@@ -25,23 +22,22 @@ slice-aggregate-map-planned : tie.Need-slice-aggregate-map-planned
 slice-aggregate-map-planned c = search needs
 
 map-planned-requires : tie.Need-map-planned-requires
-map-planned-requires c κs = (poolIn (c .before .before .before .before .before .before .before .before .before .plan-frames .ensures), drawn (c .before .before .before .before .before .before .before .before .before .plan-frames .ensures) (c .before .before .before .before .before .k .given .1))
+map-planned-requires c κs = (poolIn (c .before .before .before .before .before .before .before .before .plan-frames .ensures), drawn (c .before .before .before .before .before .before .before .before .plan-frames .ensures) (c .before .before .before .before .before .k .given .1))
 
 returns : tie.Need-returns
-returns c = unplanned-map (c .before .before .before .before .before .plan-frames .ensures) (c .before .before .before .before .before .before .before .before .before .before .before .before .before .before .before .args .out .now) (c .before .u .given .1)
+returns c = unplanned-map (c .before .before .before .before .plan-frames .ensures) (c .before .before .before .before .before .before .before .before .before .before .before .before .before .args .out .now) (c .before .u .given .1)
 
 same-length : tie.Need-same-length
 same-length c = search needs
 
 returns-2 : tie.Need-returns-2
-returns-2 c = planned-map (c .before .before .before .before .before .before .before .before .before .before .before .before .plan-frames .ensures) (c .before .before .before .before .before .before .before .before .before .before .before .before .before .before .before .before .before .before .before .before .before .before .args .out .now) (c .before .before .before .before .before .before .before .before .k .given .1) (c .before .before .map-planned .ensures (poolIn (c .before .before .before .before .before .before .before .before .before .before .before .before .plan-frames .ensures)) (drawn (c .before .before .before .before .before .before .before .before .before .before .before .before .plan-frames .ensures) (c .before .before .before .before .before .before .before .before .k .given .1)))
+returns-2 c = planned-map (c .before .before .before .before .before .before .before .before .before .before .before .plan-frames .ensures) (c .before .before .before .before .before .before .before .before .before .before .before .before .before .before .before .before .before .before .before .before .args .out .now) (c .before .before .before .before .before .before .before .before .k .given .1) (c .before .before .map-planned .ensures (poolIn (c .before .before .before .before .before .before .before .before .before .before .before .plan-frames .ensures)) (drawn (c .before .before .before .before .before .before .before .before .before .before .before .plan-frames .ensures) (c .before .before .before .before .before .before .before .before .k .given .1)))
 
 pub map-spec : {M : Type 1} → statement M
 map-spec =
     tie.close
     (tie.spec
     slice-aggregate-plan-frames
-    slice-aggregate-plan-frames-2
     plan-frames-requires
     enum-known-u
     enum-known-k

@@ -3,6 +3,7 @@ use Prim.Native.Nat.{ℕ, _≤_, _-_}
 use mathlib.Core.List.{List}
 use mathlib.Core.Path.{refl}
 use native.Mathlib.Omega.{arith}
+use Rattle.pool.specs.Entries.{entriesIn}
 use Rattle.pool.specs.Ranking.{Tabling}
 use Rattle.plan_tables.specs.Rules.{ColumnRulesAsks}
 use Rattle.plan_tables.proofs.Ruled.{RulesFrom, rules-begin, column-below, column-asks, rules-next, rules-all}
@@ -10,7 +11,7 @@ use Rattle.plan_tables.proofs.rules.fill_columns.Statement.{statement}
 use Rattle.plan_tables.proofs.rules.fill_columns.Tie as tie
 
 abbrev Inv-loop : tie.InvT-loop
-Inv-loop nodes expressions table cmdims columns count rules₀ known₀ k₀ rules known k = (k ≤ count) × ((l : List ℕ) (n m : ℕ) (rank : ℕ → ℕ) → ColumnRulesAsks (Tabling nodes l expressions n m) rank table columns count rules₀ → RulesFrom (Tabling nodes l expressions n m) table cmdims columns count rules₀ k known rules)
+Inv-loop nodes expressions table cmdims columns count rules₀ known₀ k₀ rules known k = (k ≤ count) × ((l : List ℕ) (n m : ℕ) (rank : ℕ → ℕ) → ColumnRulesAsks (Tabling nodes l expressions n m) rank (entriesIn table) columns count rules₀ → RulesFrom (Tabling nodes l expressions n m) (entriesIn table) cmdims columns count rules₀ k known rules)
 
 abbrev μ-loop : tie.MeasureT-loop
 μ-loop nodes expressions table cmdims columns count rules₀ known₀ k₀ rules known k = k

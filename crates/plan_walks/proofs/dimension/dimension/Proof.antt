@@ -16,11 +16,8 @@ good-lists-requires c κs = search needs
 slice-aggregate-plan-frames : tie.Need-slice-aggregate-plan-frames
 slice-aggregate-plan-frames c = search needs
 
-slice-aggregate-plan-frames-2 : tie.Need-slice-aggregate-plan-frames-2
-slice-aggregate-plan-frames-2 c = search needs
-
 plan-frames-requires : tie.Need-plan-frames-requires
-plan-frames-requires c κs = record { nodes = refl; expressions = refl; tableSize = refl; blank = record { sections = refl; dims = refl; cmDims = refl } }
+plan-frames-requires c κs = record { nodes = refl; expressions = refl; blank = record { sections = refl; dims = refl; cmDims = refl } }
 
 enum-known-u : tie.Need-enum-known-u
 enum-known-u c = search needs
@@ -29,13 +26,13 @@ enum-known-k : tie.Need-enum-known-k
 enum-known-k c = search needs
 
 array-share-prefix-dims : tie.Need-array-share-prefix-dims
-array-share-prefix-dims c = dims-fit (c .before .before .before .before .before .before .plan-frames .ensures) (c .before .before .k .given .1) (c .before .before .before .before .before .table2 .given)
+array-share-prefix-dims c = dims-fit (c .before .before .before .before .before .plan-frames .ensures) (c .before .before .k .given .1)
 
 slice-aggregate-dimension-planned : tie.Need-slice-aggregate-dimension-planned
-slice-aggregate-dimension-planned c = simp length-take (omega (arith, dims-fit (c .before .before .before .before .before .before .before .plan-frames .ensures) (c .before .before .before .k .given .1) (c .before .before .before .before .before .before .table2 .given)))
+slice-aggregate-dimension-planned c = simp length-take (omega (arith, dims-fit (c .before .before .before .before .before .before .plan-frames .ensures) (c .before .before .before .k .given .1)))
 
 dimension-planned-requires : tie.Need-dimension-planned-requires
-dimension-planned-requires c κs = (_, _, _, _, standing (c .before .before .before .before .before .before .before .before .before .before .plan-frames .ensures) (c .before .before .before .before .before .before .k .given .1) (c .before .before .before .before .before .before .before .before .before .table2 .given), in-tables (c .before .before .before .before .before .before .before .before .before .before .plan-frames .ensures) (c .before .before .before .before .before .before .k .given .1) (c .before .before .before .before .before .before .before .before .before .table2 .given), dims-in (c .before .before .before .before .before .before .before .before .before .before .plan-frames .ensures) (c .before .before .before .before .before .before .k .given .1) (c .before .before .before .before .before .before .before .before .before .table2 .given))
+dimension-planned-requires c κs = (_, _, _, standing (c .before .before .before .before .before .before .before .before .before .plan-frames .ensures) (c .before .before .before .before .before .before .k .given .1), in-tables (c .before .before .before .before .before .before .before .before .before .plan-frames .ensures) (c .before .before .before .before .before .before .k .given .1), dims-in (c .before .before .before .before .before .before .before .before .before .plan-frames .ensures) (c .before .before .before .before .before .before .k .given .1))
 
 same-length : tie.Need-same-length
 same-length c = search needs
@@ -47,7 +44,7 @@ same-length-3 : tie.Need-same-length-3
 same-length-3 c = search needs
 
 returns : tie.Need-returns
-returns c = own-is (c .before .before .before .before .before .before .before .before .before .before .before .before .good-lists .ensures) (unplanned-walk (c .before .before .before .before .before .plan-frames .ensures) (dimensionBy (c .before .before .before .before .before .before .before .before .before .before .before .before .before .before .before .before .before .before .before .before .before .args .dim-x) ((c .before .before .before .before .before .before .before .before .before .before .before .before .before .before .before .before .before .before .before .before .before .args .first .now) ∷ (c .before .before .before .before .before .before .before .before .before .before .before .before .before .before .before .before .before .before .before .before .before .args .i .now) ∷ (c .before .before .before .before .before .before .before .before .before .before .before .before .before .before .before .before .before .before .before .before .before .args .last .now) ∷ []) (c .before .before .before .before .before .before .before .before .before .before .before .before .before .before .before .before .before .before .before .before .before .args .plan .now)) _ (c .before .u .given .1))
+returns c = own-is (c .before .before .before .before .before .before .before .before .before .before .good-lists .ensures) (unplanned-walk (c .before .before .before .before .plan-frames .ensures) (dimensionBy (c .before .before .before .before .before .before .before .before .before .before .before .before .before .before .before .before .before .before .before .args .dim-x) ((c .before .before .before .before .before .before .before .before .before .before .before .before .before .before .before .before .before .before .before .args .first .now) ∷ (c .before .before .before .before .before .before .before .before .before .before .before .before .before .before .before .before .before .before .before .args .i .now) ∷ (c .before .before .before .before .before .before .before .before .before .before .before .before .before .before .before .before .before .before .before .args .last .now) ∷ []) (c .before .before .before .before .before .before .before .before .before .before .before .before .before .before .before .before .before .before .before .args .plan .now)) _ (c .before .u .given .1))
 
 same-length-4 : tie.Need-same-length-4
 same-length-4 c = search needs
@@ -59,7 +56,7 @@ same-length-6 : tie.Need-same-length-6
 same-length-6 c = search needs
 
 returns-2 : tie.Need-returns-2
-returns-2 c = own-is (c .before .before .before .before .before .before .before .before .before .before .before .before .before .before .before .before .before .before .before .before .before .before .before .before .good-lists .ensures) (planned-walk (c .before .before .before .before .before .before .before .before .before .before .before .before .before .before .before .before .before .plan-frames .ensures) (c .before .before .before .before .before .before .before .before .before .before .before .before .before .k .given .1) (c .before .before .before .before .before .before .before .before .before .before .before .before .before .before .before .before .table2 .given) (dimensionBy (c .before .before .before .before .before .before .before .before .before .before .before .before .before .before .before .before .before .before .before .before .before .before .before .before .before .before .before .before .before .before .before .before .before .args .dim-x) ((c .before .before .before .before .before .before .before .before .before .before .before .before .before .before .before .before .before .before .before .before .before .before .before .before .before .before .before .before .before .before .before .before .before .args .first .now) ∷ (c .before .before .before .before .before .before .before .before .before .before .before .before .before .before .before .before .before .before .before .before .before .before .before .before .before .before .before .before .before .before .before .before .before .args .i .now) ∷ (c .before .before .before .before .before .before .before .before .before .before .before .before .before .before .before .before .before .before .before .before .before .before .before .before .before .before .before .before .before .before .before .before .before .args .last .now) ∷ []) (c .before .before .before .before .before .before .before .before .before .before .before .before .before .before .before .before .before .before .before .before .before .before .before .before .before .before .before .before .before .before .before .before .before .args .plan .now)) (c .before .before .before .before .before .before .dimension-planned .ensures _ _ _ _ (standing (c .before .before .before .before .before .before .before .before .before .before .before .before .before .before .before .before .before .plan-frames .ensures) (c .before .before .before .before .before .before .before .before .before .before .before .before .before .k .given .1) (c .before .before .before .before .before .before .before .before .before .before .before .before .before .before .before .before .table2 .given)) (in-tables (c .before .before .before .before .before .before .before .before .before .before .before .before .before .before .before .before .before .plan-frames .ensures) (c .before .before .before .before .before .before .before .before .before .before .before .before .before .k .given .1) (c .before .before .before .before .before .before .before .before .before .before .before .before .before .before .before .before .table2 .given)) (dims-in (c .before .before .before .before .before .before .before .before .before .before .before .before .before .before .before .before .before .plan-frames .ensures) (c .before .before .before .before .before .before .before .before .before .before .before .before .before .k .given .1) (c .before .before .before .before .before .before .before .before .before .before .before .before .before .before .before .before .table2 .given))))
+returns-2 c = own-is (c .before .before .before .before .before .before .before .before .before .before .before .before .before .before .before .before .before .before .before .before .before .before .good-lists .ensures) (planned-walk (c .before .before .before .before .before .before .before .before .before .before .before .before .before .before .before .before .plan-frames .ensures) (c .before .before .before .before .before .before .before .before .before .before .before .before .before .k .given .1) (dimensionBy (c .before .before .before .before .before .before .before .before .before .before .before .before .before .before .before .before .before .before .before .before .before .before .before .before .before .before .before .before .before .before .before .args .dim-x) ((c .before .before .before .before .before .before .before .before .before .before .before .before .before .before .before .before .before .before .before .before .before .before .before .before .before .before .before .before .before .before .before .args .first .now) ∷ (c .before .before .before .before .before .before .before .before .before .before .before .before .before .before .before .before .before .before .before .before .before .before .before .before .before .before .before .before .before .before .before .args .i .now) ∷ (c .before .before .before .before .before .before .before .before .before .before .before .before .before .before .before .before .before .before .before .before .before .before .before .before .before .before .before .before .before .before .before .args .last .now) ∷ []) (c .before .before .before .before .before .before .before .before .before .before .before .before .before .before .before .before .before .before .before .before .before .before .before .before .before .before .before .before .before .before .before .args .plan .now)) (c .before .before .before .before .before .before .dimension-planned .ensures _ _ _ (standing (c .before .before .before .before .before .before .before .before .before .before .before .before .before .before .before .before .plan-frames .ensures) (c .before .before .before .before .before .before .before .before .before .before .before .before .before .k .given .1)) (in-tables (c .before .before .before .before .before .before .before .before .before .before .before .before .before .before .before .before .plan-frames .ensures) (c .before .before .before .before .before .before .before .before .before .before .before .before .before .k .given .1)) (dims-in (c .before .before .before .before .before .before .before .before .before .before .before .before .before .before .before .before .plan-frames .ensures) (c .before .before .before .before .before .before .before .before .before .before .before .before .before .k .given .1))))
 
 pub dimension-spec : {M : Type 1} → statement M
 dimension-spec =
@@ -67,7 +64,6 @@ dimension-spec =
     (tie.spec
     good-lists-requires
     slice-aggregate-plan-frames
-    slice-aggregate-plan-frames-2
     plan-frames-requires
     enum-known-u
     enum-known-k

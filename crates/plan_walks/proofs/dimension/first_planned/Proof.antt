@@ -11,16 +11,16 @@ use Rattle.plan_walks.proofs.dimension.first_planned.Statement.{stateme
 use Rattle.plan_walks.proofs.dimension.first_planned.Tie as tie
 
 fill-cms-requires : tie.Need-fill-cms-requires
-fill-cms-requires c κs = cms-asked (c .before .before .before .before .pre .4) (c .before .before .before .before .pre .5)
+fill-cms-requires c κs = cms-asked (c .before .before .before .before .pre .3) (c .before .before .before .before .pre .4)
 
 fill-qs-requires : tie.Need-fill-qs-requires
-fill-qs-requires c κs = fitting (c .before .before .before .before .before .before .pre .4) .0
+fill-qs-requires c κs = fitting (c .before .before .before .before .before .before .pre .3) .0
 
 array-share-prefix-cms : tie.Need-array-share-prefix-cms
-array-share-prefix-cms c = omega (arith, cms-room (c .before .before .before .before .before .before .before .pre .4) (c .before .before .before .before .before .before .before .pre .5) false refl (c .before .before .fill-cms .ensures))
+array-share-prefix-cms c = omega (arith, cms-room (c .before .before .before .before .before .before .before .pre .3) (c .before .before .before .before .before .before .before .pre .4) false refl (c .before .before .fill-cms .ensures))
 
 slice-aggregate-set-code-dimensions-first : tie.Need-slice-aggregate-set-code-dimensions-first
-slice-aggregate-set-code-dimensions-first c = simp length-take (omega (arith, cms-room (c .before .before .before .before .before .before .before .before .pre .4) (c .before .before .before .before .before .before .before .before .pre .5) false refl (c .before .before .before .fill-cms .ensures)))
+slice-aggregate-set-code-dimensions-first c = simp length-take (omega (arith, cms-room (c .before .before .before .before .before .before .before .before .pre .3) (c .before .before .before .before .before .before .before .before .pre .4) false refl (c .before .before .before .fill-cms .ensures)))
 
 array-share-prefix-numbers : tie.Need-array-share-prefix-numbers
 array-share-prefix-numbers c = omega (arith, c .before .fill-qs .ensures .1, listed-size (c .before .fill-qs .ensures .0))
@@ -38,7 +38,7 @@ same-length : tie.Need-same-length
 same-length c = search needs
 
 returns : tie.Need-returns
-returns c = λ w x table cs z a e. dimensioned-planned z e (cms-are z a false refl (c .before .before .before .before .before .before .before .before .before .fill-cms .ensures)) (listed-front (c .before .before .before .before .before .before .before .fill-qs .ensures .0) (omega (arith, c .before .before .before .before .before .before .before .fill-qs .ensures .1, c .before .before .before .before .before .before .before .fill-qs .ensures .0 .count))) (c .before .before .before .set-code-dimensions-first .ensures) (c .told .ensures)
+returns c = λ w x cs z a e. dimensioned-planned z e (cms-are z a false refl (c .before .before .before .before .before .before .before .before .before .fill-cms .ensures)) (listed-front (c .before .before .before .before .before .before .before .fill-qs .ensures .0) (omega (arith, c .before .before .before .before .before .before .before .fill-qs .ensures .1, c .before .before .before .before .before .before .before .fill-qs .ensures .0 .count))) (c .before .before .before .set-code-dimensions-first .ensures) (c .told .ensures)
 
 pub first-planned-spec : {M : Type 1} → statement M
 first-planned-spec =

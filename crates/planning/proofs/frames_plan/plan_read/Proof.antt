@@ -11,28 +11,25 @@ is-plan-requires : tie.Need-is-plan-requires
 is-plan-requires c κs = search needs
 
 returns : tie.Need-returns
-returns c = λ l. no-plan-told (c .before .before .before .before .before .args .plan .now) (c .before .before .before .before .before .args .well-formed) (Tabling (c .before .before .before .before .before .args .nodes .now) l (c .before .before .before .before .before .args .expressions .now) (c .before .before .before .before .before .args .c .nodes) (c .before .before .before .before .before .args .c .expressions)) (c .before .is-plan .ensures) (not-true _ (c .if1 .taken))
+returns c = λ l. no-plan-told (c .before .before .before .before .args .plan .now) (c .before .before .before .before .args .well-formed) (Tabling (c .before .before .before .before .args .nodes .now) l (c .before .before .before .before .args .expressions .now) (c .before .before .before .before .args .c .nodes) (c .before .before .before .before .args .c .expressions)) (c .before .is-plan .ensures) (not-true _ (c .if1 .taken))
 
 fits-requires : tie.Need-fits-requires
-fits-requires c κs = whole (c .before .before .before .before .before .args .plan .now) (c .before .is-plan .ensures) (not-false _ (c .if1 .left))
+fits-requires c κs = whole (c .before .before .before .before .args .plan .now) (c .before .is-plan .ensures) (not-false _ (c .if1 .left))
 
 returns-2 : tie.Need-returns-2
-returns-2 c = λ l. too-many-told (c .before .before .before .before .before .before .before .args .plan .now) (c .before .before .before .before .before .before .before .args .well-formed) (Tabling (c .before .before .before .before .before .before .before .args .nodes .now) l (c .before .before .before .before .before .before .before .args .expressions .now) (c .before .before .before .before .before .before .before .args .c .nodes) (c .before .before .before .before .before .before .before .args .c .expressions)) (c .before .before .before .is-plan .ensures) (not-false _ (c .before .before .if1 .left)) (c .before .fits2 .ensures) (not-true _ (c .if2 .taken))
+returns-2 c = λ l. too-many-told (c .before .before .before .before .before .before .args .plan .now) (c .before .before .before .before .before .before .args .well-formed) (Tabling (c .before .before .before .before .before .before .args .nodes .now) l (c .before .before .before .before .before .before .args .expressions .now) (c .before .before .before .before .before .before .args .c .nodes) (c .before .before .before .before .before .before .args .c .expressions)) (c .before .before .before .is-plan .ensures) (not-false _ (c .before .before .if1 .left)) (c .before .fits2 .ensures) (not-true _ (c .if2 .taken))
 
 returns-3 : tie.Need-returns-3
-returns-3 c = λ l. ill-formed-told (c .before .before .before .before .before .before .before .before .args .plan .now) (c .before .before .before .before .before .before .before .before .args .well-formed) (Tabling (c .before .before .before .before .before .before .before .before .args .nodes .now) l (c .before .before .before .before .before .before .before .before .args .expressions .now) (c .before .before .before .before .before .before .before .before .args .c .nodes) (c .before .before .before .before .before .before .before .before .args .c .expressions)) (c .before .before .before .before .is-plan .ensures) (not-false _ (c .before .before .before .if1 .left)) (c .before .before .fits2 .ensures) (not-false _ (c .before .if2 .left)) (not-true _ (c .if3 .taken))
+returns-3 c = λ l. ill-formed-told (c .before .before .before .before .before .before .before .args .plan .now) (c .before .before .before .before .before .before .before .args .well-formed) (Tabling (c .before .before .before .before .before .before .before .args .nodes .now) l (c .before .before .before .before .before .before .before .args .expressions .now) (c .before .before .before .before .before .before .before .args .c .nodes) (c .before .before .before .before .before .before .before .args .c .expressions)) (c .before .before .before .before .is-plan .ensures) (not-false _ (c .before .before .before .if1 .left)) (c .before .before .fits2 .ensures) (not-false _ (c .before .if2 .left)) (not-true _ (c .if3 .taken))
 
 plan-pool-requires : tie.Need-plan-pool-requires
-plan-pool-requires c κs = pool-asked (fitting (c .before .before .before .before .before .before .before .before .before .before .before .before .args .plan .now) (c .before .before .before .before .before .before .before .before .is-plan .ensures) (not-false _ (c .before .before .before .before .before .before .before .if1 .left)) (c .before .before .before .before .before .before .fits2 .ensures) (not-false _ (c .before .before .before .before .before .if2 .left))) (c .before .before .before .before .before .before .before .before .before .before .before .before .pre)
+plan-pool-requires c κs = pool-asked (fitting (c .before .before .before .before .before .before .before .before .before .before .args .plan .now) (c .before .before .before .before .before .before .before .is-plan .ensures) (not-false _ (c .before .before .before .before .before .before .if1 .left)) (c .before .before .before .before .before .fits2 .ensures) (not-false _ (c .before .before .before .before .if2 .left))) (c .before .before .before .before .before .before .before .before .before .before .pre)
 
 same-length : tie.Need-same-length
 same-length c = search needs
 
-same-length-2 : tie.Need-same-length-2
-same-length-2 c = search needs
-
 returns-4 : tie.Need-returns-4
-returns-4 c = λ l. pool-told (c .before .before .before .before .before .before .before .before .before .before .before .before .before .before .before .before .before .args .plan .now) (c .before .before .before .before .before .before .before .before .before .before .before .before .before .before .before .before .before .args .well-formed) (Tabling (c .before .before .before .before .before .before .before .before .before .before .before .before .before .before .before .before .before .args .nodes .now) l (c .before .before .before .before .before .before .before .before .before .before .before .before .before .before .before .before .before .args .expressions .now) (c .before .before .before .before .before .before .before .before .before .before .before .before .before .before .before .before .before .args .c .nodes) (c .before .before .before .before .before .before .before .before .before .before .before .before .before .before .before .before .before .args .c .expressions)) (c .before .before .before .before .before .before .before .before .before .before .before .before .before .is-plan .ensures) (not-false _ (c .before .before .before .before .before .before .before .before .before .before .before .before .if1 .left)) (c .before .before .before .before .before .before .before .before .before .before .before .fits2 .ensures) (not-false _ (c .before .before .before .before .before .before .before .before .before .before .if2 .left)) (not-false _ (c .before .before .before .before .before .before .before .before .before .if3 .left)) (c .before .before .before .before .plan-pool .ensures l)
+returns-4 c = λ l. pool-told (c .before .before .before .before .before .before .before .before .before .before .before .before .before .args .plan .now) (c .before .before .before .before .before .before .before .before .before .before .before .before .before .args .well-formed) (Tabling (c .before .before .before .before .before .before .before .before .before .before .before .before .before .args .nodes .now) l (c .before .before .before .before .before .before .before .before .before .before .before .before .before .args .expressions .now) (c .before .before .before .before .before .before .before .before .before .before .before .before .before .args .c .nodes) (c .before .before .before .before .before .before .before .before .before .before .before .before .before .args .c .expressions)) (c .before .before .before .before .before .before .before .before .before .before .is-plan .ensures) (not-false _ (c .before .before .before .before .before .before .before .before .before .if1 .left)) (c .before .before .before .before .before .before .before .before .fits2 .ensures) (not-false _ (c .before .before .before .before .before .before .before .if2 .left)) (not-false _ (c .before .before .before .before .before .before .if3 .left)) (c .before .before .plan-pool .ensures l)
 
 pub plan-read-spec : {M : Type 1} → statement M
 plan-read-spec =
@@ -45,5 +42,4 @@ plan-read-spec =
     returns-3
     plan-pool-requires
     same-length
-    same-length-2
     returns-4)

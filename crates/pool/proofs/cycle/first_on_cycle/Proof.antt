@@ -2,6 +2,7 @@
 use Prim.Native.Nat.{ℕ, _≤_, _-_}
 use mathlib.Core.List.{List}
 use native.Mathlib.Omega.{arith}
+use Rattle.pool.specs.Entries.{entriesIn}
 use Rattle.pool.specs.Ranking.{Tabling, Starts}
 use Rattle.pool.specs.Cycles.{LeastOf}
 use Rattle.pool.proofs.Reaches.{BackBelow, none-back, one-back, all-back}
@@ -9,7 +10,7 @@ use Rattle.pool.proofs.cycle.first_on_cycle.Statement.{statement}
 use Rattle.pool.proofs.cycle.first_on_cycle.Tie as tie
 
 abbrev Inv-loop : tie.InvT-loop
-Inv-loop nodes expressions table m least₀ e₀ least e = (e ≤ m) × ((l : List ℕ) (n : ℕ) (a : Starts (Tabling nodes l expressions n m) table) → LeastOf (BackBelow (Tabling nodes l expressions n m) table e) 4096 least)
+Inv-loop nodes expressions table m least₀ e₀ least e = (e ≤ m) × ((l : List ℕ) (n : ℕ) (a : Starts (Tabling nodes l expressions n m) (entriesIn table)) → LeastOf (BackBelow (Tabling nodes l expressions n m) (entriesIn table) e) 4096 least)
 
 abbrev μ-loop : tie.MeasureT-loop
 μ-loop nodes expressions table m least₀ e₀ least e = m - e

@@ -1,4 +1,6 @@
 -- `pool::cycle::lead` meets its contract. Assumes nothing.
+use native.Mathlib.Omega.{arith}
+use Rattle.pool.specs.Entries.{entriesIn}
 use Rattle.pool.proofs.Spread.{exp-lead, q-lost, q-lead, no-lead}
 use borrow.Author.Needs.{needs}
 use Rattle.pool.proofs.cycle.lead.Statement.{statement}
@@ -11,25 +13,25 @@ id-requires : tie.Need-id-requires
 id-requires c κs = search needs
 
 returns : tie.Need-returns
-returns c = exp-lead _ (c .before .before .before .before .args .table .now) _ (c .before .before .kind-at .ensures) (c .before .if1 .taken) (c .id .ensures)
+returns c = exp-lead _ (entriesIn (c .before .before .before .before .args .table .now)) _ (c .before .before .kind-at .ensures) (c .before .if1 .taken) (c .id .ensures)
 
 id-requires-2 : tie.Need-id-requires-2
 id-requires-2 c κs = search needs
 
+entry-count-requires : tie.Need-entry-count-requires
+entry-count-requires c κs = search needs
+
 returns-2 : tie.Need-returns-2
-returns-2 c = q-lost _ (c .before .before .before .before .before .before .args .table .now) _ (c .before .before .before .before .kind-at .ensures) (c .before .before .if2 .taken) (c .before .id2 .ensures) (c .if3 .taken)
+returns-2 c = q-lost _ (entriesIn (c .before .before .before .before .before .before .before .args .table .now)) _ (c .before .before .before .before .before .kind-at .ensures) (c .before .before .before .if2 .taken) (c .before .before .id2 .ensures) (omega (arith, c .if3 .taken, c .before .entry-count .ensures))
 
-mul-t8 : tie.Need-mul-t8
-mul-t8 c = search needs
-
-shared-slice-read-t11 : tie.Need-shared-slice-read-t11
-shared-slice-read-t11 c = search needs
+entry-at-requires : tie.Need-entry-at-requires
+entry-at-requires c κs = omega (arith, c .if3 .left, c .before .entry-count .ensures)
 
 returns-3 : tie.Need-returns-3
-returns-3 c = q-lead _ (c .before .before .before .before .before .before .before .args .table .now) _ (c .before .before .before .before .before .kind-at .ensures) (c .before .before .before .if2 .taken) (c .before .before .id2 .ensures) (c .before .if3 .left)
+returns-3 c = q-lead _ (entriesIn (c .before .before .before .before .before .before .before .before .args .table .now)) _ (c .before .before .before .before .before .before .kind-at .ensures) (c .before .before .before .before .if2 .taken) (c .before .before .before .id2 .ensures) (omega (arith, c .before .if3 .left, c .before .before .entry-count .ensures)) (c .entry-at .ensures)
 
 returns-4 : tie.Need-returns-4
-returns-4 c = no-lead _ (c .before .before .before .before .args .table .now) _ (c .before .before .kind-at .ensures) (c .before .if1 .left) (c .if2 .left)
+returns-4 c = no-lead _ (entriesIn (c .before .before .before .before .args .table .now)) _ (c .before .before .kind-at .ensures) (c .before .if1 .left) (c .if2 .left)
 
 pub lead-spec : {M : Type 1} → statement M
 lead-spec =
@@ -39,8 +41,8 @@ lead-spec =
     id-requires
     returns
     id-requires-2
+    entry-count-requires
     returns-2
-    mul-t8
-    shared-slice-read-t11
+    entry-at-requires
     returns-3
     returns-4)

@@ -5,6 +5,7 @@ use mathlib.Core.List.{List}
 use mathlib.Core.Path.{sym, ap, _∙_}
 use native.Mathlib.Omega.{arith}
 use borrow.Author.Needs.{needs}
+use Rattle.pool.specs.Entries.{entriesIn}
 use Rattle.pool.specs.Shapes.{foundAt}
 use Rattle.pool.specs.Ranking.{countBelow, pending, Tabling, Starts}
 use Rattle.pool.specs.Laws.Nodes.{root-there}
@@ -13,7 +14,7 @@ use Rattle.pool.proofs.cycle.least_back.Statement.{statement}
 use Rattle.pool.proofs.cycle.least_back.Tie as tie
 
 abbrev Inv-loop : tie.InvT-loop
-Inv-loop nodes expressions table m target least marks₀ found₀ marks found = (l : List ℕ) (n : ℕ) → Starts (Tabling nodes l expressions n m) table → Reach (Tabling nodes l expressions n m) table target least marks found
+Inv-loop nodes expressions table m target least marks₀ found₀ marks found = (l : List ℕ) (n : ℕ) → Starts (Tabling nodes l expressions n m) (entriesIn table) → Reach (Tabling nodes l expressions n m) (entriesIn table) target least marks found
 
 abbrev μ-loop : tie.MeasureT-loop
 μ-loop nodes expressions table m target least marks₀ found₀ marks found = countBelow (pending marks) m

@@ -28,7 +28,7 @@ part-admit-end : tie.Need-part-admit-end
 part-admit-end c = search needs
 
 admit-requires : tie.Need-admit-requires
-admit-requires c κs = read-fits (of-text (c .before .before .before .before .before .before .before .fill-text .ensures)) (c .before .before .before .before .before .c .given .1)
+admit-requires c κs = read-fits (of-text (c .before .before .before .before .before .before .fill-text .ensures)) (c .before .before .before .before .c .given .1)
 
 verdict-number-requires : tie.Need-verdict-number-requires
 verdict-number-requires c κs = search needs
@@ -40,7 +40,7 @@ returns-2 : tie.Need-returns-2
 returns-2 c = refused-number (ap (held _) (sym (c .enum-told2 .given .1)) ∙ c .before .before .fill-text .ensures .answer)
 
 returns-3 : tie.Need-returns-3
-returns-3 c = judged-number (of-text (c .before .before .before .before .before .before .before .before .before .fill-text .ensures)) (c .before .before .before .before .before .before .before .c .given .1) (c .before .admit .ensures _) (c .verdict-number .ensures)
+returns-3 c = judged-number (of-text (c .before .before .before .before .before .before .before .before .fill-text .ensures)) (c .before .before .before .before .before .before .c .given .1) (c .before .admit .ensures _) (c .verdict-number .ensures)
 
 pub number-of-text-spec : {M : Type 1} → statement M
 number-of-text-spec =

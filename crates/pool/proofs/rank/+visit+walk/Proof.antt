@@ -18,6 +18,8 @@ use Rattle.pool.proofs.rank.walk.Kinds as walk-kinds
 use Rattle.pool.proofs.rank.+visit+walk.Lts-walk as walk-lts
 use Rattle.frames.proofs.tables.count_at.Reads as count-at-reads
 use Rattle.frames.proofs.tables.kind_at.Reads as kind-at-reads
+use Rattle.pool.proofs.entries.entry_at.Reads as entry-at-reads
+use Rattle.pool.proofs.entries.entry_count.Reads as entry-count-reads
 use Rattle.pool.proofs.words.child.Reads as child-reads
 use Rattle.pool.proofs.words.id.Reads as id-reads
 use Rattle.pool.proofs.words.root.Reads as root-reads
@@ -46,7 +48,7 @@ abbrev visit-claims : ℕ → visit-lts.Claims
 visit-claims t = (root-reads.Asked, root-reads.Learnt, walk-below t, walk.Post)
 
 abbrev walk-claims : ℕ → walk-lts.Claims
-walk-claims t = (kind-at-reads.Asked, kind-at-reads.Learnt, id-reads.Asked, id-reads.Learnt, visit-below t, visit.Post, count-at-reads.Asked, count-at-reads.Learnt, child-reads.Asked, child-reads.Learnt, walk-below t, walk.Post)
+walk-claims t = (kind-at-reads.Asked, kind-at-reads.Learnt, id-reads.Asked, id-reads.Learnt, visit-below t, visit.Post, entry-count-reads.Asked, entry-count-reads.Learnt, entry-at-reads.Asked, entry-at-reads.Learnt, count-at-reads.Asked, count-at-reads.Learnt, child-reads.Asked, child-reads.Learnt, walk-below t, walk.Post)
 
 visit-mul-rank : (t : ℕ) → visit-lts.Need-mul-rank (visit-claims t) (visit-at t) visit.Post
 visit-mul-rank t c = let a = c .before .pre .1 .3 in omega (arith, a .there, a .state .fewExpressions)
@@ -105,20 +107,20 @@ walk-returns t c = λ l n m a. exp-gives _ _ a (c .before .before .before .befor
 walk-id-requires-2 : (t : ℕ) → walk-lts.Need-id-requires-2 (walk-claims t) (walk-at t) walk.Post
 walk-id-requires-2 t c κs = room _ _ (c .before .before .before .before .pre .1 .3)
 
+walk-entry-count-requires : (t : ℕ) → walk-lts.Need-entry-count-requires (walk-claims t) (walk-at t) walk.Post
+walk-entry-count-requires t c κs = tt
+
 walk-returns-2 : (t : ℕ) → walk-lts.Need-returns-2 (walk-claims t) (walk-at t) walk.Post
-walk-returns-2 t c = λ l n m a. q-past _ _ a (c .before .before .before .before .kind-at .ensures) (c .before .before .if2 .taken) (c .before .id2 .ensures) (c .if3 .taken)
+walk-returns-2 t c = λ l n m a. q-past _ _ a (c .before .before .before .before .before .kind-at .ensures) (c .before .before .before .if2 .taken) (c .before .before .id2 .ensures) (omega (arith, c .if3 .taken, c .before .entry-count .ensures))
 
-walk-mul-visit : (t : ℕ) → walk-lts.Need-mul-visit (walk-claims t) (walk-at t) walk.Post
-walk-mul-visit t c = omega (arith, c .before .if3 .left, c .before .before .before .before .before .before .before .good)
-
-walk-shared-slice-read-visit : (t : ℕ) → walk-lts.Need-shared-slice-read-visit (walk-claims t) (walk-at t) walk.Post
-walk-shared-slice-read-visit t c = omega (arith, c .before .before .if3 .left)
+walk-entry-at-requires : (t : ℕ) → walk-lts.Need-entry-at-requires (walk-claims t) (walk-at t) walk.Post
+walk-entry-at-requires t c κs = omega (arith, c .before .if3 .left, c .before .before .entry-count .ensures)
 
 walk-visit-requires-2 : (t : ℕ) → walk-lts.Need-visit-requires-2 (walk-claims t) (walk-at t) walk.Post
-walk-visit-requires-2 t c κs = let P = c .before .before .before .before .before .before .before .before .pre in (omega (arith, P .0), (P .1 .0, P .1 .1, P .1 .2, q-asks _ _ (P .1 .3) (c .before .before .before .before .before .before .kind-at .ensures) (c .before .before .before .before .if2 .taken) (c .before .before .before .id2 .ensures) (c .before .before .if3 .left)))
+walk-visit-requires-2 t c κs = let P = c .before .before .before .before .before .before .before .before .before .pre in (omega (arith, P .0), (P .1 .0, P .1 .1, P .1 .2, q-asks _ _ (P .1 .3) (c .before .before .before .before .before .before .before .kind-at .ensures) (c .before .before .before .before .before .if2 .taken) (c .before .before .before .before .id2 .ensures) (omega (arith, c .before .before .if3 .left, c .before .before .before .entry-count .ensures)) (c .entry-at .ensures)))
 
 walk-returns-3 : (t : ℕ) → walk-lts.Need-returns-3 (walk-claims t) (walk-at t) walk.Post
-walk-returns-3 t c = λ l n m a. q-gives _ _ a (c .before .before .before .before .before .before .before .kind-at .ensures) (c .before .before .before .before .before .if2 .taken) (c .before .before .before .before .id2 .ensures) (c .before .before .before .if3 .left) (c .visit2 .ensures l n m (q-asks _ _ a (c .before .before .before .before .before .before .before .kind-at .ensures) (c .before .before .before .before .before .if2 .taken) (c .before .before .before .before .id2 .ensures) (c .before .before .before .if3 .left)))
+walk-returns-3 t c = λ l n m a. q-gives _ _ a (c .before .before .before .before .before .before .before .before .kind-at .ensures) (c .before .before .before .before .before .before .if2 .taken) (c .before .before .before .before .before .id2 .ensures) (omega (arith, c .before .before .before .if3 .left, c .before .before .before .before .entry-count .ensures)) (c .before .entry-at .ensures) (c .visit2 .ensures l n m (q-asks _ _ a (c .before .before .before .before .before .before .before .before .kind-at .ensures) (c .before .before .before .before .before .before .if2 .taken) (c .before .before .before .before .before .id2 .ensures) (omega (arith, c .before .before .before .if3 .left, c .before .before .before .before .entry-count .ensures)) (c .before .entry-at .ensures)))
 
 walk-count-at-requires : (t : ℕ) → walk-lts.Need-count-at-requires (walk-claims t) (walk-at t) walk.Post
 walk-count-at-requires t c κs = room _ _ (c .before .before .before .before .pre .1 .3)
@@ -184,6 +186,10 @@ pub +visit+walk-spec : {M : Type 1} → statement M
       id-reads.Learnt,
       visit-below t,
       visit.Post,
+      entry-count-reads.Asked,
+      entry-count-reads.Learnt,
+      entry-at-reads.Asked,
+      entry-at-reads.Learnt,
       count-at-reads.Asked,
       count-at-reads.Learnt,
       child-reads.Asked,
@@ -198,9 +204,9 @@ pub +visit+walk-spec : {M : Type 1} → statement M
     (walk-visit-requires t)
     (walk-returns t)
     (walk-id-requires-2 t)
+    (walk-entry-count-requires t)
     (walk-returns-2 t)
-    (walk-mul-visit t)
-    (walk-shared-slice-read-visit t)
+    (walk-entry-at-requires t)
     (walk-visit-requires-2 t)
     (walk-returns-3 t)
     (walk-count-at-requires t)

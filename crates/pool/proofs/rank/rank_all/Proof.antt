@@ -4,6 +4,7 @@ use mathlib.Core.List.{List}
 use mathlib.Core.Path.{refl}
 use mathlib.Core.Logic.{inl, inr}
 use native.Mathlib.Omega.{arith}
+use Rattle.pool.specs.Entries.{entriesIn}
 use Rattle.pool.specs.Ranking.{Tabling, Starts}
 use Rattle.pool.proofs.Ranks.{cycle-is}
 use Rattle.pool.proofs.AllRanks.{Progress, begin, asks, advance, finish}
@@ -11,7 +12,7 @@ use Rattle.pool.proofs.rank.rank_all.Statement.{statement}
 use Rattle.pool.proofs.rank.rank_all.Tie as tie
 
 abbrev Inv-loop : tie.InvT-loop
-Inv-loop nodes expressions table m ranks₀ done₀ e₀ ranks done e = (l : List ℕ) (n : ℕ) → Starts (Tabling nodes l expressions n m) table → (e ≤ m) × Progress (Tabling nodes l expressions n m) table ranks done e
+Inv-loop nodes expressions table m ranks₀ done₀ e₀ ranks done e = (l : List ℕ) (n : ℕ) → Starts (Tabling nodes l expressions n m) (entriesIn table) → (e ≤ m) × Progress (Tabling nodes l expressions n m) (entriesIn table) ranks done e
 
 abbrev μ-loop : tie.MeasureT-loop
 μ-loop nodes expressions table m ranks₀ done₀ e₀ ranks done e = m - e
