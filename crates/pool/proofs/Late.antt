@@ -2,15 +2,16 @@
 -- Assumes nothing.
 use Prim.Native.Nat.{ℕ, zero, suc, _≤_, _<_}
 use mathlib.Core.Path.{_≡_, refl, sym, _∙_}
-use mathlib.Core.Bool.{Bool, true, false, or-false}
+use mathlib.Core.Bool.{Bool, true, false, _&&_, or-false}
 use mathlib.Core.List.{List, [], _∷_}
-use lib.Dec.{leb}
+use lib.Dec.{eqb, leb}
 use borrow.Author.Tests.{le-leb, lt-leb}
 use Rattle.meaning.specs.Trees.{upTo}
-use Rattle.frames.specs.Tables.{countIn}
+use Rattle.kinds.specs.KindBytes as kind
+use Rattle.frames.specs.Tables.{kindIn, idIn, countIn}
 use Rattle.pool.specs.Words.{c0In, c1In, c2In}
 use Rattle.pool.specs.Admission.{someFrom}
-use Rattle.pool.specs.Shapes.{lateIn}
+use Rattle.pool.specs.Shapes.{lateIn, lostIn}
 
 up-to-none : (n : ℕ) → upTo {A = ℕ} n [] ≡ []
 up-to-none zero = refl
@@ -19,6 +20,34 @@ up-to-none (suc n) = refl
 -- n of three numbers, is one of them not below i?
 abbrev late : ℕ → ℕ → ℕ → ℕ → ℕ → Bool
 late n a b c i = someFrom i (upTo n (a ∷ b ∷ c ∷ []))
+
+late-none : (n a b c i : ℕ) → a < i → b < i → c < i → late n a b c i ≡ false
+late-none zero a b c i x y z = refl
+late-none (suc zero) a b c i x y z = rw (lt-leb i a x)
+late-none (suc (suc zero)) a b c i x y z = rw (lt-leb i a x, lt-leb i b y)
+late-none (suc (suc (suc k))) a b c i x y z = rw (lt-leb i a x, lt-leb i b y, up-to-none k, lt-leb i c z)
+
+-- whichever of them count
+pub none-late-at : (w : List ℕ) (i : ℕ) → (c0In w i < i) × (c1In w i < i) × (c2In w i < i) → false ≡ lateIn w i
+unfolding lateIn
+none-late-at w i h = sym (late-none (countIn w i) (c0In w i) (c1In w i) (c2In w i) i (h .0) (h .1) (h .2))
+
+-- ── a leaf whose expression is not there ─────────────────────────────────────
+and-true : (x : Bool) → x ≡ (x && true)
+and-true true = refl
+and-true false = refl
+
+and-false : (x : Bool) → false ≡ (x && false)
+and-false true = refl
+and-false false = refl
+
+pub lost-is : (w : List ℕ) (m i : ℕ) {e k : ℕ} → e ≡ idIn w i → m ≤ e → k ≡ kindIn w i → eqb k kind.exp ≡ lostIn w m i
+unfolding lostIn
+lost-is w m i {e} {k} q h p = rw (← q, ← p, le-leb m e h) (and-true (eqb k kind.exp))
+
+pub found-is : (w : List ℕ) (m i : ℕ) {e : ℕ} → e ≡ idIn w i → e < m → false ≡ lostIn w m i
+unfolding lostIn
+found-is w m i {e} q h = rw (← q, lt-leb m e h) (and-false (eqb (kindIn w i) kind.exp))
 
 late-first : (n a b c i : ℕ) → (n ≡ 0 → ⊥) → i ≤ a → late n a b c i ≡ true
 late-first zero a b c i n h = absurd (n refl)

@@ -2,14 +2,14 @@
 -- Assumes nothing: these are definitions.
 use Prim.Native.Nat.{ℕ, zero, suc, _<_, min}
 use mathlib.Core.Path.{_≡_}
-use mathlib.Core.Bool.{Bool, not, _&&_}
+use mathlib.Core.Bool.{Bool, true, not, _&&_}
 use mathlib.Core.Option.{Option, none, some}
 use mathlib.Core.List.{List, [], _∷_, _++_}
 use lib.ListN.{length, getD}
 use lib.Dec.{eqb, leb}
 use Rattle.frames.specs.Order.{nodeLimit}
 use Rattle.frames.specs.Tables.{kindIn, idIn, countIn}
-use Rattle.pool.specs.Words.{rootIn}
+use Rattle.pool.specs.Words.{c0In, c1In, c2In, rootIn}
 use Rattle.kinds.specs.KindBytes as kind
 use Rattle.kinds.specs.Kinds.{childCount}
 use Rattle.pool.specs.Pool.{times}
@@ -25,6 +25,10 @@ wrongIn w i = not (eqb (countIn w i) (childCount (kindIn w i)))
 
 unfoldable pub lateIn : List ℕ → ℕ → Bool
 lateIn w i = someFrom i (childrenIn w i)
+
+-- all places of children are earlier, where it is told so
+abbrev pub EarlierGiven : List ℕ → ℕ → Bool → Type 0
+EarlierGiven w i r = r ≡ true → (c0In w i < i) × (c1In w i < i) × (c2In w i < i)
 
 -- in a table of uses, each counted up to two
 abbrev pub twiceIn : List ℕ → ℕ → Bool

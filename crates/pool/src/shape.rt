@@ -12,7 +12,7 @@ ghost use mathlib.Core.Path.{_≡_};
 ghost use Rattle.frames.specs.Order.{nodeLimit, expressionLimit};
 ghost use Prim.Native.Nat.{_<_, _≤_};
 ghost use Rattle.pool.specs.Admission.{first};
-ghost use Rattle.pool.specs.Shapes.{lateIn, lostIn, offendsIn, lostRootIn, foundAt};
+ghost use Rattle.pool.specs.Shapes.{EarlierGiven, lateIn, lostIn, offendsIn, lostRootIn, foundAt};
 
 // What a node may not do.
 pub enum Rule {
@@ -27,10 +27,28 @@ pub enum Found {
     Nothing,
 }
 
+// Are all three places of children earlier, also those that do not count?
+fn all_earlier(nodes: &[u64; NODE_WORDS], i: usize) -> bool
+    requires { ⌜ i < nodeLimit ⌝ }
+    ensures { λ r. ⌜ EarlierGiven (now (nodes .entry)) i r ⌝ }
+{
+    if i <= child(nodes, i, 0) {
+        return false;
+    }
+    if i <= child(nodes, i, 1) {
+        return false;
+    }
+    child(nodes, i, 2) < i
+}
+
+// Of most nodes all places are earlier, which is told without the count.
 fn late_child(nodes: &[u64; NODE_WORDS], i: usize) -> bool
     requires { ⌜ i < nodeLimit ⌝ }
     ensures { λ r. ⌜ r ≡ lateIn (now (nodes .entry)) i ⌝ }
 {
+    if all_earlier(nodes, i) {
+        return false;
+    }
     let count = count_at(nodes, i);
     if count == 0 {
         return false;
@@ -50,12 +68,13 @@ fn late_child(nodes: &[u64; NODE_WORDS], i: usize) -> bool
     i <= child(nodes, i, 2)
 }
 
+// Few ids are so large, so the kind is looked at last.
 fn lost_leaf(nodes: &[u64; NODE_WORDS], expressions: usize, i: usize) -> bool
     requires { ⌜ i < nodeLimit ⌝ }
     ensures { λ r. ⌜ r ≡ lostIn (now (nodes .entry)) expressions i ⌝ }
 {
-    if kind_at(nodes, i) == Kind::EXP {
-        return expressions <= id(nodes, i);
+    if expressions <= id(nodes, i) {
+        return kind_at(nodes, i) == Kind::EXP;
     }
     false
 }
