@@ -1,7 +1,7 @@
 #!/usr/bin/env python3
 """Try wrong programs: each must be refused.
 
-    tools/mutate.py [--stored | --seed N --edits N] [--crates a,b,..] [--jobs N] [--minutes N] [--log FILE]
+    tools/mutate.py [--stored | --seed N --edits N] [--crates a,b,..] [--but a,b,..] [--jobs N] [--minutes N] [--log FILE]
 
 With --stored the edits that stand in crates/NAME/edits/*.edit (the form is that of must-fail/, which the gate tries); else small edits
 of crates/NAME/src picked at random, the same for the same seed: a constant changed, a test negated, an operator or two operands
@@ -69,6 +69,10 @@ def changed_lines(line):
 def read(path):
     with open(path) as f:
         return f.read()
+
+
+def listed():
+    return [line.split(":")[0] for line in read(os.path.join(ROOT, "crates.txt")).split("\n") if ":" in line.split("#")[0]]
 
 
 def small_edits(crate):
@@ -180,11 +184,13 @@ def main():
     parser.add_argument("--seed", type=int, default=1)
     parser.add_argument("--edits", type=int, default=300, help="how many small edits")
     parser.add_argument("--crates", default="", help="only these, with commas")
+    parser.add_argument("--but", default="", help="none of these, with commas")
     parser.add_argument("--jobs", type=int, default=os.cpu_count(), help="how many crates at a time")
     parser.add_argument("--minutes", type=float, default=float("inf"), help="no edit is begun after so many")
     parser.add_argument("--log", default=os.devnull, help="what the checks say")
     options = parser.parse_args()
-    crates = options.crates.split(",") if options.crates else sorted(os.listdir(os.path.join(ROOT, "crates")))
+    left_out = options.but.split(",")
+    crates = [crate for crate in (options.crates.split(",") if options.crates else listed()) if crate not in left_out]
     edits = [edit for crate in crates for edit in (stored_edits if options.stored else small_edits)(crate)]
     if not options.stored:
         random.Random(options.seed).shuffle(edits)
