@@ -4,7 +4,7 @@ ghost use Rattle.kinds.specs.Literals.{is_minus_zero, fits_i64, is_allowed};
 
 use crate::kind::Kind;
 
-#[derive(Drop)]
+#[derive(Clone, Copy)]
 pub struct Literal {
     pub negative: bool,
     pub magnitude: u64,

@@ -7,7 +7,7 @@ use crate::big_endian::{put_two, put_u16, u16_at};
 use crate::kind::Kind;
 
 // `extra` is the expression of a temporary that fixing made, and for a number the node that brought its literal.
-#[derive(Drop)]
+#[derive(Clone, Copy)]
 pub struct Reference {
     pub kind: u8,
     pub prime: u8,

@@ -7,7 +7,7 @@ use crate::big_endian::{put_two, put_u16, u16_at};
 use crate::reference::{REFERENCE_SIZE, Reference, put_reference, reference_at};
 
 // `count` is the number of sources, from `s0` on; emission leaves the others blank.
-#[derive(Drop)]
+#[derive(Clone, Copy)]
 pub struct Step {
     pub op: u8,
     pub count: u8,
