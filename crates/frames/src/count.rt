@@ -12,7 +12,7 @@ pub const EXPRESSION_LIMIT: usize = 512;
 
 pub const REQUEST_LIMIT: usize = 1024;
 
-#[derive(Drop)]
+#[derive(Clone, Copy)]
 pub struct Counts {
     pub nodes: usize,
     pub expressions: usize,

@@ -15,7 +15,7 @@ pub const EXPRESSION_TYPE: u8 = 0x02;
 
 pub const REQUEST_TYPE: u8 = 0x03;
 
-#[derive(Drop)]
+#[derive(Clone, Copy)]
 pub enum Frame {
     Malformed,
     Node(Node),

@@ -18,7 +18,7 @@ const CHILD_SIZE: usize = 2;
 const LITERAL_SIZE: usize = 9;
 
 // `count` is the frame's own child count. Only the first three children are kept; one that is not there is 0, and so is a literal.
-#[derive(Drop)]
+#[derive(Clone, Copy)]
 pub struct Node {
     pub kind: u8,
     pub next: u8,

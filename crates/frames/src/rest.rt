@@ -12,7 +12,7 @@ const REQUEST_SIZE: usize = 5;
 const MOST_FLAGS: u8 = 7;
 
 // Flags: bit 0 keep, 1 keep2ns, 2 idQ.
-#[derive(Drop)]
+#[derive(Clone, Copy)]
 pub struct Expression {
     pub root: u16,
     pub flags: u8,
@@ -24,7 +24,7 @@ pub enum ExpressionRead {
     Read(Expression),
 }
 
-#[derive(Drop)]
+#[derive(Clone, Copy)]
 pub struct Request {
     pub expression: u16,
     pub prime: u8,

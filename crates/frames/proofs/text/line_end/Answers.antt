@@ -1,0 +1,28 @@
+-- `frames::text::line_end` meets its contract. The loop's invariant: from here on the line ends where it ends.
+-- Assumes nothing.
+use Prim.Native.Nat.{◌-◌}
+use lib.ListN.{length}
+use native.Mathlib.Omega.{arith}
+use Rattle.frames.proofs.Texts.{Ending, ending_start, ending_found, ending_more, ending_end}
+use Rattle.frames.proofs.text.line_end.Goals as goal
+
+pub loop-i-init : goal.loop-i-init
+loop-i-init c = ending_start _ _ c.requires
+
+pub bounds-text-i : goal.bounds-text-i
+bounds-text-i c = omega arith
+
+pub returns-then-text-i-eq10 : goal.returns-then-text-i-eq10
+returns-then-text-i-eq10 c = ending_found _ _ _ c.loop-i.invariant c.loop-i-test.true c.if-text-i-eq10.true
+
+pub overflow_add-i : goal.overflow_add-i
+overflow_add-i c = omega arith
+
+pub loop-i-smaller : goal.loop-i-smaller
+loop-i-smaller c = omega arith
+
+pub loop-i-preserved : goal.loop-i-preserved
+loop-i-preserved c = ending_more _ _ _ c.loop-i.invariant c.loop-i-test.true c.if-text-i-eq10.false
+
+pub returns : goal.returns
+returns c = ending_end _ _ _ c.loop-i.invariant c.loop-i-test.false

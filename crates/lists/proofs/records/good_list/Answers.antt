@@ -1,0 +1,38 @@
+-- `lists::records::good_list` meets its contract: the records before k are well formed.
+-- Assumes nothing.
+use borrow.Author.Tests.{not-true, not-false}
+use Prim.Native.Nat.{◌≤◌, ◌-◌}
+use mathlib.Core.Path.{◌≡◌, refl}
+use mathlib.Core.Bool.{true}
+use native.Mathlib.Omega.{arith}
+use Rattle.kinds.specs.Steps.{steps_of}
+use Rattle.lists.specs.Records.{record_count, good_records}
+use Rattle.lists.specs.Laws.{good-begin, good-next, good-stop, good-cut, good-end, record_in}
+use Rattle.lists.proofs.records.good_list.Goals as goal
+
+pub returns-then-list-ne0 : goal.returns-then-list-ne0
+returns-then-list-ne0 c = good-cut _ c.if-list-ne0.true
+
+pub loop-k-init : goal.loop-k-init
+loop-k-init c = (omega arith, good-begin _)
+
+pub overflow_mul-k : goal.overflow_mul-k
+overflow_mul-k c = omega (arith, record_in c.args.list.now c.loop-k.k c.loop-k-test.true, c.well_formed)
+
+pub good_record-requires : goal.good_record-requires
+good_record-requires c = record_in c.args.list.now c.loop-k.k c.loop-k-test.true
+
+pub returns-then-not-good_record : goal.returns-then-not-good_record
+returns-then-not-good_record c = good-stop _ _ _ refl _ c.good_record.ensures c.loop-k-test.true c.if-list-ne0.false c.if-not-good_record.true
+
+pub overflow_add-k : goal.overflow_add-k
+overflow_add-k c = omega arith
+
+pub loop-k-smaller : goal.loop-k-smaller
+loop-k-smaller c = omega arith
+
+pub loop-k-preserved : goal.loop-k-preserved
+loop-k-preserved c = (omega arith, good-next _ _ _ refl _ c.good_record.ensures c.loop-k.invariant.1 c.if-not-good_record.false)
+
+pub returns : goal.returns
+returns c = good-end _ _ c.loop-k.invariant.1 c.loop-k.invariant.0 c.loop-k-test.false c.if-list-ne0.false

@@ -1,0 +1,45 @@
+-- `sections::groups::put_widths` meets its contract: the widths of the sections before s are written.
+-- Assumes nothing.
+use Prim.Native.Nat.{◌≤◌, ◌-◌}
+use mathlib.Core.Path.{◌≡◌, refl, sym}
+use native.Mathlib.Omega.{arith}
+use lib.ListN.{length, length-set}
+use Rattle.kinds.specs.Write.{write, write-none}
+use Rattle.sections.specs.Sums.{each}
+use Rattle.sections.specs.Sections.{section_count}
+use Rattle.sections.specs.Groups.{width_in}
+use Rattle.sections.specs.Laws.Tables.{widths-next, widths-end}
+use Rattle.sections.proofs.groups.put_widths.Goals as goal
+
+pub loop-s-init : goal.loop-s-init
+loop-s-init c = (omega arith, sym (write-none _ _), refl)
+
+pub overflow_cast-s : goal.overflow_cast-s
+overflow_cast-s c = omega arith
+
+pub width-requires : goal.width-requires
+width-requires c = (omega arith, c.requires.0)
+
+pub overflow_add-widths : goal.overflow_add-widths
+overflow_add-widths c = omega (arith, c.requires.1, c.well_formed)
+
+pub offset_bounds-widths-at : goal.offset_bounds-widths-at
+offset_bounds-widths-at c = omega (arith, c.requires.1, c.well_formed)
+
+pub bounds-widths-at : goal.bounds-widths-at
+bounds-widths-at c = omega (arith, c.requires.1, c.loop-s.invariant.2)
+
+pub overflow_add-s : goal.overflow_add-s
+overflow_add-s c = omega arith
+
+pub loop-s-smaller : goal.loop-s-smaller
+loop-s-smaller c = omega arith
+
+pub loop-s-preserved : goal.loop-s-preserved
+loop-s-preserved c = (omega arith, widths-next _ _ _ _ _ _ c.loop-s.invariant.1 c.width.ensures, simp length-set c.loop-s.invariant.2)
+
+pub shape_of-widths : goal.shape_of-widths
+shape_of-widths c = c.loop-s.invariant.2
+
+pub returns : goal.returns
+returns c = widths-end _ _ _ _ _ c.loop-s.invariant.1 c.loop-s.invariant.0 c.loop-s-test.false
