@@ -10,7 +10,7 @@ use frames::tables::{NODE_WORDS, count_at, kind_at};
 use kinds::kind::Kind;
 
 // What a node may not do.
-#[derive(Drop)]
+#[derive(Clone, Copy)]
 pub enum Rule {
     ChildCount,
     ChildEarlier,
