@@ -133,7 +133,7 @@ module _ (𝓐 : Algebra) (G : Given 𝓐.A) (P : Cell → Type 0) (f : Cell →
   run_renamed {s} {s'} {t} m (x ∷ xs) p h =
       let y = bind-some (exec 𝓐 G x s) _ h in
       let z = exec_renamed m x p.0 y.1 in
-      let w = run_renamed z.2 xs p.1 y.2 in
+      let w = run_renamed {s = y.0} {s' = z.0} z.2 xs p.1 y.2 in
       (w.0, rw z.1 w.1, w.2)
 
 -- ── what a run writes ────────────────────────────────────────────────────────
