@@ -1,4 +1,6 @@
 // What fixing means stands in specs/; a crate has at least one function.
+#![tactic(auto)]
+
 ghost use Rattle.std.specs.Prelude.{◌≡◌};
 
 // How many lists of a segment fixing walks: first, i, last.

@@ -1,7 +1,7 @@
 -- WRITING A PART OF A RECORD is writing the record: the rest of its bytes stand there already.
 -- Assumes nothing.
 use Rattle.std.specs.Prelude.{ℕ, suc, ◌+◌, ◌*◌, ◌/◌, ◌%◌, ◌≤◌, ◌<◌, ◌≡◌, refl, List, [], ◌∷◌, ◌++◌, ◌⊎◌, length, get_or, set}
-use Rattle.std.proofs.Common.{sym, ◌∙◌, ap, inl, inr, add_assoc, arith, set-set}
+use Rattle.std.proofs.Common.{sym, ◌∙◌, ap, inl, inr, arith, set-set}
 use Rattle.std.proofs.lemmas.List.Edits.{sets}
 use Rattle.std.proofs.lemmas.List.{set-get_or, set_comm}
 use Rattle.kinds.specs.Write.{write, write-append, write_two}

@@ -2,7 +2,7 @@
 -- Assumes nothing.
 use Rattle.std.specs.Prelude.{ℕ, ◌≡◌, refl, Bool, true, List, [], ◌∷◌, ◌++◌, length}
 use Rattle.std.proofs.Common.{sym, ◌∙◌, ap, append_assoc, append-nil}
-use Rattle.std.proofs.Math.Option.{Option, none, some, none-ne-some}
+use Rattle.std.proofs.Math.Option.{Option, some, none-ne-some}
 use Rattle.meaning.specs.Refusals.{Refusal, Answer, done, refused, ◌then◌}
 use Rattle.meaning.specs.Trees.{Expression, Forest, nth}
 use Rattle.meaning.specs.Order.{Marks, Job, Asked, nothing, there, ask_below, ask}

@@ -19,7 +19,7 @@ use Rattle.pool.specs.Trees.{tree}
 use Rattle.pool.specs.Admission.{first, leads_to, Edge, Walk, LeadsBack, OnCycle}
 use Rattle.pool.specs.Tabled.{Tables, tabled}
 use Rattle.pool.specs.Ranking.{count_below, pending, Leads, Starts}
-use Rattle.pool.specs.Cycles.{marked, nearest, Spreads, reached_in, LeastOf}
+use Rattle.pool.specs.Cycles.{nearest, Spreads, reached_in, LeastOf}
 use Rattle.pool.specs.Laws.First.{found-is, none_is}
 use Rattle.pool.specs.Laws.Members.{member-each}
 use Rattle.pool.specs.Laws.Tabled.{expression-count, root-at}

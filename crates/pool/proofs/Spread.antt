@@ -1,15 +1,15 @@
 -- What the leaves of a node's tree mark, by the node: a leaf, or an operation's children one after another.
 -- Assumes nothing.
 use Prim.Native.Nat.{ℕ, ◌<◌, ◌≤◌, min}
-use mathlib.Core.Path.{◌≡◌, refl, sym, ◌∙◌, ap, subst}
-use mathlib.Core.Bool.{Bool, true, false, cond}
+use mathlib.Core.Path.{◌≡◌, sym, ◌∙◌, ap, subst}
+use mathlib.Core.Bool.{cond}
 use mathlib.Core.Option.{none, some}
 use mathlib.Core.List.{List, [], ◌∷◌}
 use native.Mathlib.Omega.{arith}
 use lib.ListN.{length, get_or, set}
 use lib.Dec.{eqb}
-use borrow.Author.Tests.{eq-eqb, ne_eqb, eqb-true, eqb-false}
-use Rattle.meaning.specs.Trees.{RowKind, Leaf, nth, ◌at◌, leaves, Each, Member}
+use borrow.Author.Tests.{eq-eqb, ne_eqb}
+use Rattle.meaning.specs.Trees.{◌at◌, leaves, Each, Member}
 use Rattle.frames.specs.declared.node.Node.{Node}
 use Rattle.frames.specs.Tables.{kind_in, id_in, count_in}
 use Rattle.kinds.specs.KindBytes as kind

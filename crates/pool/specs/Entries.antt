@@ -1,7 +1,7 @@
 -- A TABLE FROM Q NUMBERS TO EXPRESSIONS as bytes: an entry has two, the high one first. That of a pool alone is empty.
 -- Assumes nothing.
 use Rattle.std.specs.Prelude.{ℕ, zero, suc, ◌+◌, ◌*◌, ◌/◌, ◌≤◌, ◌<◌, ◌≡◌, refl, List, [], ◌∷◌, length, get_or}
-use Rattle.std.proofs.Common.{sym, ◌∙◌, ap, arith, not-suc-le-zero, le_of_suc-le-suc}
+use Rattle.std.proofs.Common.{◌∙◌, ap, arith, not-suc-le-zero, le_of_suc-le-suc}
 use Rattle.kinds.specs.BigEndian.{u16_at}
 
 abbrev pub entries_in : List ℕ → List ℕ

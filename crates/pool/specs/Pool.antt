@@ -5,7 +5,6 @@ use Rattle.std.proofs.Math.Option.{Option, none, some}
 use Rattle.meaning.specs.Trees.{nth, up_to}
 use Rattle.frames.specs.declared.node.Node.{Node}
 use Rattle.frames.specs.declared.rest.Expression.{Expression}
-use Rattle.kinds.specs.KindBytes as kind
 
 pub record Pool : Type 0 where
   pub nodes : List Node

@@ -1,4 +1,6 @@
 // Pools: admission, and ranks of expressions.
+#![tactic(auto)]
+
 pub mod admit;
 pub mod cycle;
 pub mod entries;

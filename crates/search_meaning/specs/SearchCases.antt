@@ -1,6 +1,6 @@
 -- EACH NUMBER OF A SEARCH EXACTLY WHEN its row's condition holds, in a forest without a cycle; and the limit on visits changes nothing once it is enough.
 -- Assumes nothing.
-use Rattle.std.specs.Prelude.{ℕ, zero, suc, ◌+◌, ◌-◌, ◌^◌, ◌<◌, ◌≤◌, ◌≡◌, Bool, ◌⊎◌, ◌↔◌, eqb, ltb, length}
+use Rattle.std.specs.Prelude.{ℕ, zero, suc, ◌-◌, ◌^◌, ◌<◌, ◌≤◌, ◌≡◌, Bool, ◌⊎◌, ◌↔◌, eqb, ltb, length}
 use Rattle.std.proofs.Math.Path.{refl, ap}
 use Rattle.std.proofs.Common.{sym, ◌∙◌, subst, inl, inr, arith, eq-eqb, ne_eqb, eqb-true, le-leb, leb-true, leb-false, ltb-true}
 use Rattle.std.proofs.Math.Bool.{true, false, cond}
@@ -9,7 +9,7 @@ use mathlib.Core.List.{List, [], ◌∷◌, ◌++◌}
 use Rattle.std.proofs.Math.Dec.{leb}
 use Rattle.std.proofs.lemmas.Bool.{eqb-false, lt-leb}
 use Rattle.meaning.specs.Refusals.{Refusal, number, Answer, answer_no}
-use Rattle.meaning.specs.Trees.{FlatKind, Leaf, Expr, Forest, ◌at◌, leaves, Each, Acyclic}
+use Rattle.meaning.specs.Trees.{FlatKind, Leaf, Expr, Forest, leaves, Each, Acyclic}
 use Rattle.meaning.specs.Laws.Tests.{true-false, each-join}
 use Rattle.search_meaning.specs.Search.{Tally, Out, done, refused, Read, Found, Choice, finish_at, tries, identity_leaf, folded, fold_more, folds, all_below, bits_ok, unless, search}
 use Rattle.search_meaning.specs.Unlimited.{seen, OnlyKind, clip, clip-over, clip-under}

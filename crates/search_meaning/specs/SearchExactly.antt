@@ -1,13 +1,13 @@
 -- WHAT A PERSON WANTS TO KNOW OF A SEARCH, in a forest without a cycle: each refusal exactly when, what an accepted choice is, and that the limit on visits changes
 -- nothing once it is enough.
 -- Assumes nothing.
-use Rattle.std.specs.Prelude.{ℕ, zero, suc, ◌+◌, ◌-◌, ◌<◌, ◌≤◌, ◌≡◌, refl, Bool, true, false, cond, ◌||◌, List, [], ◌∷◌, ◌⊎◌, eqb, ltb, length}
+use Rattle.std.specs.Prelude.{ℕ, zero, suc, ◌+◌, ◌<◌, ◌≤◌, ◌≡◌, refl, Bool, true, false, cond, ◌||◌, List, [], ◌∷◌, ◌⊎◌, eqb, ltb, length}
 use Rattle.std.proofs.Common.{sym, ◌∙◌, ap, inl, inr, arith}
 use Rattle.std.proofs.Math.Option.{Option, none, some, none-ne-some}
 use Rattle.meaning.specs.Refusals.{Refusal, Answer}
 use Rattle.meaning.specs.Trees.{Leaf, Expr, Expression, Forest, nth, Placed, ◌at◌, leaves, Each, Acyclic}
 use Rattle.search_meaning.specs.Degrees.{full_table}
-use Rattle.search_meaning.specs.Search.{Tally, Out, done, refused, next, Read, Found, found, body, top, candidate, q_of, weight, keep, Choice, finish, onward, tries, folded, unless, search}
+use Rattle.search_meaning.specs.Search.{Tally, Out, done, refused, next, Read, Found, found, body, top, candidate, q_of, weight, keep, Choice, finish, onward, tries}
 use Rattle.search_meaning.specs.Unlimited.{OnlyKind, clip, clip-under, Cuts, cuts_give, cuts_bind, cuts_visit, Bodies, cuts_rule, cuts_bodies}
 
 -- ── all candidates, with what was counted ────────────────────────────────────

@@ -3,7 +3,7 @@
 -- Assumes nothing.
 use Rattle.std.specs.Prelude.{ℕ, zero, suc, ◌+◌, ◌<◌, ◌≤◌, ◌≡◌, refl, Bool, true, false, cond, List, [], ◌∷◌, ◌++◌, length}
 use Rattle.std.proofs.Common.{sym, ◌∙◌, ap, subst, arith, ne_eqb, ltb-true}
-use Rattle.std.proofs.Math.Option.{Option, none, some}
+use Rattle.std.proofs.Math.Option.{some}
 use Rattle.meaning.specs.Refusals.{Refusal, Answer, done, refused}
 use Rattle.meaning.specs.Trees.{Leaf, Expression, Forest, Falls, Acyclic, nth, Placed, ◌at◌, leaves, Each}
 use Rattle.meaning.specs.Order.{Marks, marking, Job, Asked, nothing, asked, there, in_rows, primed, own, ask_leaf, ask_leaves, fresh, ask_below, ask}

@@ -5,7 +5,6 @@ use Rattle.std.proofs.Common.{sym, ◌∙◌, ap, ap₂, subst, append-nil, arit
 use Rattle.meaning.specs.Trees.{Op, OpC, Expr, Placed, leaves, Each}
 use Rattle.meaning.specs.Laws.Tests.{each_left, each_right, each-join, each_map}
 use Rattle.frames.specs.declared.node.Node.{Node}
-use Rattle.kinds.specs.KindBytes as kind
 use Rattle.kinds.specs.Kinds.{child_count}
 use Rattle.kinds.specs.Range.{within, within-above, passes, pass}
 use Rattle.pool.specs.Pool.{Pool, node, children}

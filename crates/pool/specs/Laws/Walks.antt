@@ -3,7 +3,6 @@
 use Rattle.std.specs.Prelude.{ℕ, zero, suc, ◌<◌, ◌≡◌, refl, Bool, true, false, cond, List, ◌⊎◌, length}
 use Rattle.std.proofs.Common.{inl, inr, arith}
 use Rattle.meaning.specs.Trees.{Placed, ◌at◌, leaves, Each}
-use Rattle.kinds.specs.KindBytes as kind
 use Rattle.pool.specs.Pool.{Pool, node, children}
 use Rattle.pool.specs.Trees.{leaf_of, Class, leafy, class, tree}
 use Rattle.pool.specs.Shaped.{Shaped}

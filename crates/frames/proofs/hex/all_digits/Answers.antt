@@ -1,11 +1,9 @@
 -- `frames::hex::all_digits` meets its contract. The loop's invariant: what is left has digits only just if the whole has.
 -- Assumes nothing.
 use mathlib.Core.Path.{refl, ap}
-use Prim.Native.Nat.{◌-◌}
-use lib.ListN.{length}
 use native.Mathlib.Omega.{arith}
 use Rattle.frames.proofs.Tests.{via-not, via-kept}
-use Rattle.frames.proofs.Digits.{Digits, digits_fail, digits_more, digits_end}
+use Rattle.frames.proofs.Digits.{digits_fail, digits_more, digits_end}
 use mathlib.Core.Bool.{not}
 use Rattle.frames.proofs.hex.all_digits.Goals as goal
 

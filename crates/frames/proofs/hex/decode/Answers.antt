@@ -1,8 +1,7 @@
 -- `frames::hex::decode` meets its contract. The loop's invariant: the bytes that are left, written after those that are written, are the whole.
 -- Assumes nothing.
-use Prim.Native.Nat.{◌-◌}
 use native.Mathlib.Omega.{arith}
-use Rattle.frames.proofs.Digits.{line, Decoded, decode_start, decode_digit, decode_more, decode_end}
+use Rattle.frames.proofs.Digits.{line, decode_start, decode_digit, decode_more, decode_end}
 use Rattle.frames.proofs.hex.decode.Goals as goal
 
 pub loop-i-init : goal.loop-i-init

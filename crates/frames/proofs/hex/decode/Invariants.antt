@@ -1,7 +1,7 @@
 -- `frames::hex::decode` meets its contract. The loop's invariant: the bytes that are left, written after those that are written, are the whole.
 -- Assumes nothing.
 use Prim.Native.Nat.{◌-◌}
-use Rattle.frames.proofs.Digits.{line, Decoded}
+use Rattle.frames.proofs.Digits.{Decoded}
 use Rattle.frames.proofs.hex.decode.Given as goal
 
 abbrev pub invariant-loop-i : goal.invariant-loop-i

@@ -1,14 +1,9 @@
-
 use Rattle.frames.proofs.node.node_size.Goals as goal
-
 use native.Mathlib.Omega.{arith}
 -- `frames::node::node_size` meets its contract.
 -- Assumes nothing.
 use Rattle.frames.specs.Nodes.{node_size}
 use Rattle.frames.proofs.Tests.{via}
-use borrow.Author.Rules.{rules}
-use Rattle.frames.proofs.node.node_size.Statement.{statement}
-use Rattle.frames.proofs.node.node_size.Tie as tie
 
 pub returns-then-carries_literal : goal.returns-then-carries_literal
 unfolding node_size

@@ -1,13 +1,10 @@
 -- `frames::read::fill` meets its contract. The loop's invariant: what is left, read after what the tables hold, is the whole.
 -- Assumes nothing.
 use mathlib.Core.Path.{refl, sym, ◌∙◌}
-use Prim.Native.Nat.{◌-◌}
-use lib.ListN.{length}
 use native.Mathlib.Omega.{arith}
-use Rattle.frames.specs.Tables.{tables}
 use Rattle.frames.specs.Taking.{Bytes}
 use Rattle.frames.specs.Splitting.{next-whole}
-use Rattle.frames.proofs.Loops.{Filled, fill_start, fill_end, fill_cut, fill_refused, fill_more}
+use Rattle.frames.proofs.Loops.{fill_start, fill_end, fill_cut, fill_refused, fill_more}
 use Rattle.frames.proofs.read.fill.Goals as goal
 
 pub loop-at-init : goal.loop-at-init

@@ -1,12 +1,8 @@
-
 use Rattle.frames.proofs.read.next_frame.Goals as goal
-
 use Rattle.frames.proofs.Loops.{next_short, next_long, next_is}
+
 -- `frames::read::next_frame` meets its contract: each answer by the tests that led to it.
 -- Assumes nothing.
-use borrow.Author.Rules.{rules}
-use Rattle.frames.proofs.read.next_frame.Statement.{statement}
-use Rattle.frames.proofs.read.next_frame.Tie as tie
 
 pub returns-then-s-at-lt2 : goal.returns-then-s-at-lt2
 returns-then-s-at-lt2 c = next_short _ _ c.if-s-at-lt2.true c.requires

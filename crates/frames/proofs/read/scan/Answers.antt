@@ -1,11 +1,9 @@
 -- `frames::read::scan` meets its contract. The loop's invariant: what is left, counted after what is counted, is the whole.
 -- Assumes nothing.
 use mathlib.Core.Path.{refl, sym, ◌∙◌}
-use Prim.Native.Nat.{◌-◌}
-use lib.ListN.{length}
 use native.Mathlib.Omega.{arith}
 use Rattle.frames.specs.Splitting.{next-whole}
-use Rattle.frames.proofs.Loops.{Left, left_start, left_end, left_cut, left_refused, left_more}
+use Rattle.frames.proofs.Loops.{left_start, left_end, left_cut, left_refused, left_more}
 use Rattle.frames.proofs.read.scan.Goals as goal
 
 pub loop-at-init : goal.loop-at-init

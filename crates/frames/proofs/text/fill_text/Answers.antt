@@ -1,11 +1,8 @@
 -- `frames::text::fill_text` meets its contract. The loop's invariant: what is left, read after what the tables hold, is the whole.
 -- Assumes nothing.
 use mathlib.Core.Path.{refl}
-use Prim.Native.Nat.{◌-◌}
-use lib.ListN.{length}
 use native.Mathlib.Omega.{arith}
-use Rattle.frames.specs.Tables.{tables}
-use Rattle.frames.proofs.Texts.{ended, FilledText, text_start, text_done, text_refused, text_more}
+use Rattle.frames.proofs.Texts.{ended, text_start, text_done, text_refused, text_more}
 use Rattle.frames.proofs.text.fill_text.Goals as goal
 
 pub loop-at-init : goal.loop-at-init

@@ -1,9 +1,7 @@
 -- `frames::text::line_end` meets its contract. The loop's invariant: from here on the line ends where it ends.
 -- Assumes nothing.
-use Prim.Native.Nat.{◌-◌}
-use lib.ListN.{length}
 use native.Mathlib.Omega.{arith}
-use Rattle.frames.proofs.Texts.{Ending, ending_start, ending_found, ending_more, ending_end}
+use Rattle.frames.proofs.Texts.{ending_start, ending_found, ending_more, ending_end}
 use Rattle.frames.proofs.text.line_end.Goals as goal
 
 pub loop-i-init : goal.loop-i-init

@@ -1,12 +1,7 @@
 -- `lists::records::good_list` meets its contract: the records before k are well formed.
 -- Assumes nothing.
-use borrow.Author.Tests.{not-true, not-false}
-use Prim.Native.Nat.{◌≤◌, ◌-◌}
-use mathlib.Core.Path.{◌≡◌, refl}
-use mathlib.Core.Bool.{true}
+use mathlib.Core.Path.{refl}
 use native.Mathlib.Omega.{arith}
-use Rattle.kinds.specs.Steps.{steps_of}
-use Rattle.lists.specs.Records.{record_count, good_records}
 use Rattle.lists.specs.Laws.{good-begin, good-next, good-stop, good-cut, good-end, record_in}
 use Rattle.lists.proofs.records.good_list.Goals as goal
 

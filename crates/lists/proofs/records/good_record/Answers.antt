@@ -1,6 +1,5 @@
 -- `lists::records::good_record` meets its contract: each way through the code is one law of specs/Laws.antt.
 -- Assumes nothing.
-use borrow.Author.Tests.{not-true, not-false}
 use Rattle.kinds.specs.Steps.{step_at}
 use Rattle.lists.specs.Laws.{too_many_lem, dest-bad, good_none, first-bad, good-one, second-bad, good-two, good-three}
 use Rattle.lists.proofs.records.good_record.Goals as goal

@@ -2,7 +2,6 @@
 -- Assumes nothing.
 use native.Mathlib.Omega.{arith}
 use Rattle.pool.proofs.Spread.{room, leaf-asks, leaf_spreads, stands0, less0, one_spreads, stands1, less1, two_spreads, stands2, less2, three_spreads}
-use Prim.Native.Nat.{ℕ, ◌<◌}
 use Rattle.pool.proofs.cycle.+mark_tree.Goals as goal
 
 pub count_at-count-requires : goal.count_at-count-requires

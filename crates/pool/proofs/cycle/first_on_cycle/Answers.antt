@@ -1,11 +1,6 @@
 -- `pool::cycle::first_on_cycle` meets its contract: the least is that of the leaves that lead back to an expression before e. Assumes nothing.
-use Prim.Native.Nat.{ℕ, ◌≤◌, ◌-◌}
-use mathlib.Core.List.{List}
 use native.Mathlib.Omega.{arith}
-use Rattle.pool.specs.Entries.{entries_in}
-use Rattle.pool.specs.Ranking.{Tabling, Starts}
-use Rattle.pool.specs.Cycles.{LeastOf}
-use Rattle.pool.proofs.Reaches.{BackBelow, none-back, one-back, all_back}
+use Rattle.pool.proofs.Reaches.{none-back, one-back, all_back}
 use Rattle.pool.proofs.cycle.first_on_cycle.Goals as goal
 
 pub loop-e-init : goal.loop-e-init

@@ -1,9 +1,7 @@
 -- `pool::cycle::first_reached` meets its contract: nothing below e is reached and not followed. Assumes nothing.
-use Prim.Native.Nat.{◌-◌}
 use native.Mathlib.Omega.{arith}
 use borrow.Author.Tests.{eq-eqb, ne_eqb}
-use Rattle.pool.specs.Cycles.{reached_in}
-use Rattle.pool.proofs.Firsts.{Passed, passed_none, passed-more, passed-found, passed-all}
+use Rattle.pool.proofs.Firsts.{passed_none, passed-more, passed-found, passed-all}
 use Rattle.pool.proofs.cycle.first_reached.Goals as goal
 
 pub loop-e-init : goal.loop-e-init

@@ -1,14 +1,10 @@
 -- `pool::cycle::least_back` meets its contract: each need is one lemma of proofs/Reaches.antt. The measure is how many expressions are not followed.
 -- Assumes nothing.
-use Prim.Native.Nat.{ℕ}
-use mathlib.Core.List.{List}
 use mathlib.Core.Path.{sym, ap, ◌∙◌}
 use native.Mathlib.Omega.{arith}
-use Rattle.pool.specs.Entries.{entries_in}
 use Rattle.pool.specs.Shapes.{found_at}
-use Rattle.pool.specs.Ranking.{count_below, pending, Tabling, Starts}
 use Rattle.pool.specs.Laws.Nodes.{root-there}
-use Rattle.pool.proofs.Reaches.{found-one, none-one, Reach, begin, round, round_less, finish}
+use Rattle.pool.proofs.Reaches.{found-one, none-one, begin, round, round_less, finish}
 use Rattle.pool.proofs.cycle.least_back.Goals as goal
 
 pub bounds-marks-target : goal.bounds-marks-target

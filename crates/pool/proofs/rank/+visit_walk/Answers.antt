@@ -1,13 +1,10 @@
 -- `pool::rank::visit` and `pool::rank::walk` meet their contracts: each need is one lemma of proofs/Ranks.antt or proofs/Children.antt.
 -- The measure is what is not reached, then the node. Assumes nothing.
-use Prim.Native.Nat.{◌+◌, ◌*◌}
 use native.Mathlib.Omega.{arith}
-use mathlib.Core.Path.{refl, ◌∙◌, sym}
-use mathlib.Core.Logic.{inl, inr}
-use Rattle.pool.specs.Ranking.{zeros}
+use mathlib.Core.Path.{refl}
+use mathlib.Core.Logic.{inl}
 use Rattle.pool.proofs.Ranks.{few-after, ranked-not, cycle-is, still, back-again, enter, enter_less, leave}
 use Rattle.pool.proofs.Children.{room, exp-asks, exp-gives, q-past, q-asks, q-gives, leaf-gives, asks0, less0, one-gives, asks1, less1, two-gives, asks2, less2, three-gives}
-use Prim.Native.Nat.{ℕ, ◌<◌}
 use Rattle.pool.proofs.rank.+visit_walk.Goals as goal
 
 pub visit-offset_bounds-ranks-e : goal.visit-offset_bounds-ranks-e

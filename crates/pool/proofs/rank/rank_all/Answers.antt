@@ -1,13 +1,9 @@
 -- `pool::rank::rank_all` meets its contract: every expression before e is ranked and none is being followed. Assumes nothing.
-use Prim.Native.Nat.{ℕ, ◌≤◌, ◌-◌}
-use mathlib.Core.List.{List}
 use mathlib.Core.Path.{refl}
 use mathlib.Core.Logic.{inl, inr}
 use native.Mathlib.Omega.{arith}
-use Rattle.pool.specs.Entries.{entries_in}
-use Rattle.pool.specs.Ranking.{Tabling, Starts}
 use Rattle.pool.proofs.Ranks.{cycle-is}
-use Rattle.pool.proofs.AllRanks.{Progress, begin, asks, advance, finish}
+use Rattle.pool.proofs.AllRanks.{begin, asks, advance, finish}
 use Rattle.pool.proofs.rank.rank_all.Goals as goal
 
 pub loop-e-init : goal.loop-e-init

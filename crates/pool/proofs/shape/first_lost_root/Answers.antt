@@ -1,11 +1,9 @@
 -- `pool::shape::first_lost_root` meets its contract: no root below e is lost. Assumes nothing.
-use Prim.Native.Nat.{◌-◌}
 use native.Mathlib.Omega.{arith}
 use mathlib.Core.Path.{sym, ◌∙◌, ap}
 use lib.Dec.{leb}
 use borrow.Author.Tests.{le-leb, lt-leb}
-use Rattle.pool.specs.Shapes.{lost_root_in}
-use Rattle.pool.proofs.Firsts.{Passed, passed_none, passed-more, passed-found, passed-all}
+use Rattle.pool.proofs.Firsts.{passed_none, passed-more, passed-found, passed-all}
 use Rattle.pool.proofs.shape.first_lost_root.Goals as goal
 
 pub loop-e-init : goal.loop-e-init

@@ -1,9 +1,7 @@
 -- `pool::shape::first_offender` meets its contract: nothing below i offends. Assumes nothing.
-use Prim.Native.Nat.{◌-◌}
 use native.Mathlib.Omega.{arith}
 use mathlib.Core.Path.{sym, ◌∙◌}
-use Rattle.pool.specs.Shapes.{offends_in}
-use Rattle.pool.proofs.Firsts.{Passed, passed_none, passed-more, passed-found, passed-all}
+use Rattle.pool.proofs.Firsts.{passed_none, passed-more, passed-found, passed-all}
 use Rattle.pool.proofs.shape.first_offender.Goals as goal
 
 pub loop-i-init : goal.loop-i-init

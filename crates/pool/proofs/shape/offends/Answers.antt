@@ -1,5 +1,4 @@
 -- `pool::shape::offends` meets its contract. Assumes nothing.
-use mathlib.Core.Path.{sym, ◌∙◌}
 use Rattle.pool.proofs.shape.offends.Goals as goal
 
 pub returns-in-ChildCount : goal.returns-in-ChildCount

@@ -1,5 +1,4 @@
 -- `pool::uses::tally` meets its contract. Assumes nothing.
-use native.Mathlib.Omega.{arith}
 use Rattle.pool.proofs.Tally.{tally-past, tally-full, tally-more}
 use Rattle.pool.proofs.uses.tally.Goals as goal
 

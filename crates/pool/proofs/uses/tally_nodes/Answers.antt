@@ -1,8 +1,6 @@
 -- `pool::uses::tally_nodes` meets its contract: the children of the nodes below i are tallied. Assumes nothing.
-use Prim.Native.Nat.{◌≤◌, ◌-◌}
 use native.Mathlib.Omega.{arith}
-use mathlib.Core.Path.{subst, sym}
-use Rattle.pool.specs.Shapes.{Tallies, child_uses_in}
+use Rattle.pool.specs.Shapes.{child_uses_in}
 use Rattle.pool.proofs.Tally.{nodes-none, nodes-more, all-tallied}
 use Rattle.pool.proofs.uses.tally_nodes.Goals as goal
 

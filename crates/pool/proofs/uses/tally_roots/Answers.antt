@@ -1,7 +1,6 @@
 -- `pool::uses::tally_roots` meets its contract: the roots of the expressions below e are tallied. Assumes nothing.
-use Prim.Native.Nat.{◌≤◌, ◌-◌}
 use native.Mathlib.Omega.{arith}
-use Rattle.pool.specs.Shapes.{Tallies, root_uses_in}
+use Rattle.pool.specs.Shapes.{root_uses_in}
 use Rattle.pool.proofs.Tally.{roots-none, roots-more, all-tallied}
 use Rattle.pool.proofs.uses.tally_roots.Goals as goal
 

@@ -1,11 +1,8 @@
 -- `sections::groups::place` meets its contract: the positions before i are the definition's, and the table holds what the records before i take.
 -- Assumes nothing.
-use Prim.Native.Nat.{◌≤◌, ◌-◌}
 use native.Mathlib.Omega.{arith}
 use mathlib.Core.Path.{refl, ◌∙◌}
-use lib.ListN.{length}
-use Rattle.sections.specs.Groups.{Tallied}
-use Rattle.sections.specs.Laws.Tables.{tally-begin, tally-next, tallied-small, all_small, PlacedTo, place-begin, place-next, place_end, position_is}
+use Rattle.sections.specs.Laws.Tables.{tally-begin, tally-next, tallied-small, all_small, place-begin, place-next, place_end, position_is}
 use Rattle.sections.proofs.groups.place.Goals as goal
 
 pub loop-i-init : goal.loop-i-init

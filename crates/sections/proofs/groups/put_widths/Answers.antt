@@ -1,13 +1,9 @@
 -- `sections::groups::put_widths` meets its contract: the widths of the sections before s are written.
 -- Assumes nothing.
-use Prim.Native.Nat.{◌≤◌, ◌-◌}
-use mathlib.Core.Path.{◌≡◌, refl, sym}
+use mathlib.Core.Path.{refl, sym}
 use native.Mathlib.Omega.{arith}
-use lib.ListN.{length, length-set}
-use Rattle.kinds.specs.Write.{write, write-none}
-use Rattle.sections.specs.Sums.{each}
-use Rattle.sections.specs.Sections.{section_count}
-use Rattle.sections.specs.Groups.{width_in}
+use lib.ListN.{length-set}
+use Rattle.kinds.specs.Write.{write-none}
 use Rattle.sections.specs.Laws.Tables.{widths-next, widths-end}
 use Rattle.sections.proofs.groups.put_widths.Goals as goal
 

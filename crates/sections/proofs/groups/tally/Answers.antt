@@ -1,9 +1,6 @@
 -- `sections::groups::tally` meets its contract: the table holds what the records before i take.
 -- Assumes nothing.
-use Prim.Native.Nat.{◌≤◌, ◌-◌}
 use native.Mathlib.Omega.{arith}
-use lib.ListN.{length}
-use Rattle.sections.specs.Groups.{Tallied}
 use Rattle.sections.specs.Laws.Tables.{tally-begin, tally-next, tallied-small, tally-end}
 use Rattle.sections.proofs.groups.tally.Goals as goal
 

@@ -1,11 +1,6 @@
 -- `sections::map_section::known_sections` meets its contract: the sections before k are known.
 -- Assumes nothing.
-use Prim.Native.Nat.{◌≤◌, ◌-◌}
-use mathlib.Core.Path.{◌≡◌}
-use mathlib.Core.Bool.{true}
 use native.Mathlib.Omega.{arith}
-use lib.ListN.{take}
-use Rattle.sections.specs.Sections.{known}
 use Rattle.sections.specs.Laws.Maps.{known-begin, known_next, known-stop, known-end}
 use Rattle.sections.proofs.map_section.known_sections.Goals as goal
 

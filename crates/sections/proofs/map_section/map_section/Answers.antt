@@ -1,6 +1,5 @@
 -- `sections::map_section::map_section` meets its contract: each of its answers is one law of specs/Laws/Maps.antt.
 -- Assumes nothing.
-use borrow.Author.Tests.{not-true, not-false}
 use native.Mathlib.Omega.{arith}
 use Rattle.sections.specs.Laws.Maps.{ill-dims, ill-positions, ill-widths, ill-known, too_many_lem, records_are, mapped, read-within}
 use Rattle.sections.proofs.map_section.map_section.Goals as goal
