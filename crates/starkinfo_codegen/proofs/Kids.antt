@@ -1,6 +1,6 @@
 -- The leaves of a node by its child count: those of its children, in order. Over plain variables.
 -- Assumes nothing.
-use Prim.Native.Nat.{ℕ, ◌+◌, ◌<◌, ◌≤◌}
+use Prim.Native.Nat.{ℕ, ◌+◌, ◌<◌}
 use mathlib.Core.Path.{◌≡◌, refl, sym, ◌∙◌, ap, ap₂}
 use mathlib.Core.Bool.{Bool, true, false, cond}
 use mathlib.Core.List.{List, [], ◌∷◌, ◌++◌, append-nil}
@@ -8,7 +8,7 @@ use native.Mathlib.Omega.{arith}
 use lib.Dec.{eqb, ltb}
 use borrow.Author.Tests.{lt-ltb}
 use Rattle.meaning.specs.Trees.{Leaf, Placed, ◌at◌, leaves, Each}
-use Rattle.meaning.specs.Refusals.{Answer, done}
+use Rattle.meaning.specs.Refusals.{done}
 use Rattle.meaning.specs.Order.{in_rows, own}
 use Rattle.meaning.specs.Laws.Jobs.{InRows}
 use Rattle.kinds.specs.KindBytes as kind

@@ -1,21 +1,21 @@
 -- Jobs one after another: from an expression to the leaves of its tree and back, with no word of the code.
 -- Assumes nothing.
 use Prim.Native.Nat.{ℕ, zero, suc, ◌+◌, ◌*◌, ◌-◌, ◌<◌, ◌≤◌}
-use mathlib.Core.Path.{◌≡◌, refl, sym, ◌∙◌, ap, ap₂, subst, fun_ext}
-use mathlib.Core.Bool.{Bool, true, false, ◌&&◌, ◌||◌, cond}
+use mathlib.Core.Path.{◌≡◌, refl, sym, ◌∙◌, ap, ap₂, subst}
+use mathlib.Core.Bool.{Bool, true, false, ◌||◌, cond}
 use mathlib.Core.Option.{Option, some}
 use mathlib.Core.List.{List, [], ◌∷◌, ◌++◌, append_assoc, append-nil}
 use mathlib.Core.Logic.{inl, inr}
 use native.Mathlib.Omega.{arith}
-use native.Mathlib.Nat.{not-suc-le-zero, le_of_suc-le-suc, add-zero}
+use native.Mathlib.Nat.{add-zero}
 use lib.ListN.{length, get_or, set, length-set, length-append}
-use lib.Seq.{get_or-set_same, get_or-set_other}
-use lib.Dec.{eqb, ltb}
-use borrow.Author.Tests.{eq-eqb, ne_eqb, lt-ltb, le-ltb, eqb-true, eqb-false, ltb-true, ltb-false}
+use lib.Seq.{get_or-set_other}
+use lib.Dec.{eqb}
+use borrow.Author.Tests.{ne_eqb, lt-ltb, le-ltb}
 use Rattle.meaning.specs.Refusals.{Refusal, Answer, done, refused, ◌then◌}
 use Rattle.meaning.specs.Trees.{Leaf, Forest, Falls, Acyclic, nth, Placed, ◌at◌, leaves, Each}
 use Rattle.meaning.specs.Trees as meaning
-use Rattle.meaning.specs.Order.{Marks, marking, Job, Asked, nothing, asked, there, primed, own, ask_leaf, ask_leaves, ask_below}
+use Rattle.meaning.specs.Order.{Marks, marking, Job, Asked, nothing, asked, primed, own, ask_leaf, ask_leaves, ask_below}
 use Rattle.meaning.specs.Laws.Tests.{true-false, each_left, each_right, each-join}
 use Rattle.meaning.specs.Laws.Fuse.{asked-leaves}
 use Rattle.meaning.specs.Laws.Jobs.{InRows}
@@ -26,7 +26,6 @@ use Rattle.frames.specs.Tables.{node_in}
 use Rattle.pool.specs.Words.{root_in}
 use Rattle.pool.specs.Pool.{Pool, root_of}
 use Rattle.pool.specs.Trees.{leaf_of, tree, forest}
-use Rattle.pool.specs.Ranking.{zeros}
 use Rattle.pool.specs.Laws.Tabled.{node-count, expression-count, root-at}
 use Rattle.pool.specs.Laws.Forest.{forest-at, forest-has}
 use Rattle.starkinfo_codegen.specs.Words.{node_of_words}
@@ -34,7 +33,6 @@ use Rattle.starkinfo_codegen.specs.Emitting.{Rest, tables_of, pool_of, Pooled, t
 use Rattle.starkinfo_codegen.specs.JobWords.{words_append, words-length}
 use Rattle.starkinfo_codegen.specs.Marked.{zeros-set, marked, not-marked, marks-set}
 use Rattle.starkinfo_codegen.specs.Ordering.{leaves_of, verdict, OutAsks, cell_of, marks_of, job_at, job_words, State, Stopped, Made, Gives, CodeAsks, DepsAsks, coded, needed}
-use Rattle.starkinfo_codegen.proofs.Planned.{Operand}
 use Rattle.starkinfo_codegen.proofs.Calls.{rank, rank_falls}
 use Rattle.starkinfo_codegen.proofs.Outs.{node-leaves, past-leaves, some_out, past-out}
 use Rattle.starkinfo_codegen.proofs.Kids.{One, Two, Three, lone, one, only_one, two, only_two, three, in_rows_lem, own-done}

@@ -1,7 +1,7 @@
 -- Words of jobs: how many there are, one after another, and the job that a word says.
 -- Assumes nothing.
-use Rattle.std.specs.Prelude.{ℕ, zero, suc, ◌+◌, ◌*◌, ◌/◌, ◌%◌, ◌<◌, ◌≡◌, refl, Bool, true, false, List, [], ◌∷◌, ◌++◌, length, get_or, eqb}
-use Rattle.std.proofs.Common.{ap, arith, not-suc-le-zero, le_of_suc-le-suc}
+use Rattle.std.specs.Prelude.{ℕ, suc, ◌+◌, ◌*◌, ◌/◌, ◌%◌, ◌<◌, ◌≡◌, refl, Bool, true, false, List, [], ◌∷◌, ◌++◌, length, eqb}
+use Rattle.std.proofs.Common.{ap, arith}
 use Rattle.meaning.specs.Order.{Job}
 use Rattle.starkinfo_codegen.specs.Ordering.{cell_of, job_at, job_words}
 

@@ -2,7 +2,7 @@
 -- Assumes nothing.
 use Rattle.std.specs.Prelude.{ℕ, zero, suc, ◌+◌, ◌*◌, ◌<◌, ◌≤◌, ◌≡◌, Bool, true, ◌&&◌, ◌||◌, List, [], ◌∷◌, length, get_or, set, ltb}
 use Rattle.std.proofs.Math.Path.{refl, fun_ext}
-use Rattle.std.proofs.Common.{sym, ◌∙◌, ap, subst, arith, not-suc-le-zero, le_of_suc-le-suc, length-set, get_or-set_same, get_or-set_other}
+use Rattle.std.proofs.Common.{◌∙◌, ap, subst, arith, not-suc-le-zero, le_of_suc-le-suc, length-set, get_or-set_same, get_or-set_other}
 use Rattle.std.proofs.Math.Bool.{false}
 use Rattle.std.proofs.Math.Dec.{eqb}
 use borrow.Author.Tests.{eq-eqb, lt-ltb, eqb-true, eqb-false, ltb-true, ltb-false}

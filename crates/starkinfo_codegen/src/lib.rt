@@ -1,4 +1,6 @@
 // Generation (document 01, module 3): the steps of expressions, written into a lent list.
+#![tactic(auto)]
+
 pub mod block;
 pub mod count;
 pub mod eval;
