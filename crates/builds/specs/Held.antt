@@ -14,7 +14,7 @@ use Rattle.frames.specs.Tables.{first}
 use Rattle.frames.specs.Packing.{first-same}
 use Rattle.starkinfo_codegen.specs.Encoding.{records, records-append, records-length, encoded}
 use Rattle.starkinfo_codegen.specs.Ordering.{cell_of}
-use Rattle.builds.specs.Raw.{RawBlock, cell_in, steps_in, start_of, records_from, raw_block_at, raw_blocks}
+use Rattle.builds.specs.Raw.{cell_in, steps_in, start_of, records_from, raw_block_at, raw_blocks}
 use Rattle.builds.specs.RawOf.{raw_of}
 use Rattle.builds.specs.Starts.{records-split, records-same, start-next, start-le, from, first-from}
 

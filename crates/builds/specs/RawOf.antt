@@ -12,7 +12,7 @@ use Rattle.meaning.specs.Building.{Segment, segment, flagged}
 use Rattle.kinds.specs.declared.reference.Reference.{Reference}
 use Rattle.kinds.specs.declared.step.Step.{Step}
 use Rattle.starkinfo_codegen.specs.Encoding.{ref_of, records, records-append}
-use Rattle.builds.specs.Raw.{RawBlock, RawSegment, last_destination, copied, is_block, copy_into, standing, in_e, every, linear, plain, raw_segment}
+use Rattle.builds.specs.Raw.{RawBlock, RawSegment, last_destination, copied, copy_into, standing, in_e, every, linear, plain, raw_segment}
 
 abbrev pub raw_block : Block → RawBlock
 raw_block b = record { expression = b.expression; row = b.row; records = records b.steps }

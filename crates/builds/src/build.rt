@@ -14,7 +14,7 @@ use starkinfo_codegen::order::JOB_LIMIT;
 use starkinfo_codegen::out::ROWS;
 
 // Every block; without the plain blocks that are skipped; without any that is.
-#[derive(Drop)]
+#[derive(Clone, Copy)]
 pub enum Which {
     First,
     I,

@@ -1,20 +1,18 @@
 -- Requests decided and then written: jobs that were planned may be counted and made, and fit or do not. No word of the code.
 -- Assumes nothing.
-use Prim.Native.Nat.{ℕ, zero, suc, ◌+◌, ◌*◌, ◌-◌, ◌<◌, ◌≤◌}
-use mathlib.Core.Path.{◌≡◌, refl, sym, ◌∙◌, ap, subst}
-use mathlib.Core.Bool.{Bool, true, false, ◌&&◌}
-use mathlib.Core.Option.{Option, none, some}
-use mathlib.Core.List.{List, [], ◌∷◌, ◌++◌}
+use Prim.Native.Nat.{ℕ, ◌+◌, ◌*◌, ◌-◌, ◌<◌, ◌≤◌}
+use mathlib.Core.Path.{◌≡◌, refl, sym, subst}
+use mathlib.Core.Bool.{true, false}
+use mathlib.Core.Option.{none, some}
+use mathlib.Core.List.{List}
 use native.Mathlib.Omega.{arith}
-use native.Mathlib.Nat.{zero-add}
-use lib.ListN.{length, get_or}
+use lib.ListN.{length}
 use lib.Dec.{leb, ltb}
 use borrow.Author.Tests.{leb-true, ltb-true, lt-ltb, le-leb, lt-leb}
-use Rattle.meaning.specs.Refusals.{Refusal, Answer, done, refused}
-use Rattle.meaning.specs.Trees.{Forest, Acyclic, nth, Each}
-use Rattle.meaning.specs.Trees as meaning
+use Rattle.meaning.specs.Refusals.{Refusal, Answer, refused}
+use Rattle.meaning.specs.Trees.{Forest, Acyclic}
 use Rattle.meaning.specs.Order.{Job, Asked}
-use Rattle.meaning.specs.Generation.{Request, make}
+use Rattle.meaning.specs.Generation.{make}
 use Rattle.meaning.specs.Asking.{ask_all}
 use Rattle.meaning.specs.Laws.Tests.{true-false, and_left, and_right}
 use Rattle.kinds.specs.Write.{write}

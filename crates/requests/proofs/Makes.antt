@@ -1,22 +1,20 @@
 -- Blocks made one after another: what is left, written after what stands, is the whole. No word of the code.
 -- Assumes nothing.
-use Prim.Native.Nat.{ℕ, zero, suc, ◌+◌, ◌*◌, ◌-◌, ◌/◌, ◌%◌, ◌<◌, ◌≤◌}
+use Prim.Native.Nat.{ℕ, zero, suc, ◌+◌, ◌*◌, ◌-◌, ◌<◌, ◌≤◌}
 use mathlib.Core.Path.{◌≡◌, refl, sym, ◌∙◌, ap, subst}
 use mathlib.Core.Bool.{Bool, true, false}
-use mathlib.Core.Option.{Option, none, some}
+use mathlib.Core.Option.{some}
 use mathlib.Core.List.{List, [], ◌∷◌, ◌++◌, append-nil}
 use native.Mathlib.Omega.{arith}
-use native.Mathlib.Nat.{not-suc-le-zero, le_of_suc-le-suc, mul-add}
-use lib.ListN.{length, get_or, drop, length-append, length-drop}
+use native.Mathlib.Nat.{not-suc-le-zero, le_of_suc-le-suc}
+use lib.ListN.{length, get_or, drop, length-drop}
 use lib.Seq.{drop-cons, drop-length}
-use lib.Dec.{eqb}
-use borrow.Author.Tests.{eqb-true, eqb-false}
 use Rattle.meaning.specs.Trees.{Expr, nth, Each}
 use Rattle.meaning.specs.Trees as meaning
 use Rattle.meaning.specs.Steps.{Ref, Step, exp_cell}
-use Rattle.meaning.specs.Emission.{emit, block_steps}
-use Rattle.meaning.specs.Order.{Job, asked}
-use Rattle.meaning.specs.Generation.{Made, make_one, make}
+use Rattle.meaning.specs.Emission.{emit}
+use Rattle.meaning.specs.Order.{Job}
+use Rattle.meaning.specs.Generation.{make}
 use Rattle.meaning.specs.Building.{every}
 use Rattle.meaning.specs.Laws.Requests.{every_append}
 use Rattle.kinds.specs.Write.{write, write-none, write-append}
@@ -25,18 +23,17 @@ use Rattle.frames.specs.Tables.{expression_in}
 use Rattle.frames.specs.declared.rest.Expression.{Expression}
 use Rattle.pool.specs.Words.{root_in}
 use Rattle.pool.specs.Pool.{root_of}
-use Rattle.pool.specs.Trees.{tree, forest}
+use Rattle.pool.specs.Trees.{tree}
 use Rattle.pool.specs.Laws.Tabled.{node-count, expression-count, root-at}
 use Rattle.pool.specs.Laws.Forest.{forest-at, forest-has}
 use Rattle.starkinfo_codegen.specs.Encoding.{encoded, encoded-append, encoded-none, encoded-length}
-use Rattle.starkinfo_codegen.specs.Counting.{ops, block-length}
-use Rattle.starkinfo_codegen.specs.Roots.{block-count, block-leaf, block-enough}
-use Rattle.starkinfo_codegen.specs.Emitting.{Rest, tables_of, pool_of, Pooled, RowFits, tree_of, Sizes, steps_of_block, BlockAsks, BlockGives}
+use Rattle.starkinfo_codegen.specs.Counting.{block-length}
+use Rattle.starkinfo_codegen.specs.Emitting.{Rest, tables_of, pool_of, tree_of, Sizes, steps_of_block, BlockAsks, BlockGives}
 use Rattle.starkinfo_codegen.specs.Making.{block_made}
-use Rattle.starkinfo_codegen.specs.Ordering.{cell_of, job_at, job_words, World}
+use Rattle.starkinfo_codegen.specs.Ordering.{cell_of, job_at, job_words}
 use Rattle.starkinfo_codegen.specs.JobWords.{job_in, job-back}
-use Rattle.requests.specs.Making.{word_of, JobSays, Held, JobThere, made_of, steps_from, job_steps, all_steps, E, OneAsks, OneRoom, OneMakes, JobsAsk, SizeIs, Room}
-use Rattle.requests.specs.Jobs.{block-any, steps-any, steps-count, some-steps, enough-steps}
+use Rattle.requests.specs.Making.{word_of, JobSays, JobThere, made_of, steps_from, job_steps, all_steps, E, OneAsks, OneRoom, OneMakes, JobsAsk, SizeIs, Room}
+use Rattle.requests.specs.Jobs.{block-any, some-steps, enough-steps}
 use Rattle.requests.specs.declared.make.Job as code
 
 -- ── one job ──────────────────────────────────────────────────────────────────

@@ -6,15 +6,15 @@ use mathlib.Core.Bool.{Bool, true, false}
 use mathlib.Core.List.{List, [], ◌∷◌}
 use native.Mathlib.Omega.{arith}
 use native.Mathlib.Nat.{add-zero}
-use lib.ListN.{length, get_or, drop, set}
+use lib.ListN.{length, drop, set}
 use Rattle.meaning.specs.Trees.{Forest}
 use Rattle.meaning.specs.Order.{Job}
 use Rattle.kinds.specs.Write.{write, write-none, write-append, write-length}
 use Rattle.starkinfo_codegen.specs.Emitting.{Rest}
 use Rattle.starkinfo_codegen.specs.Ordering.{cell_of, job_at}
-use Rattle.requests.specs.Making.{job_steps, JobThere, OneAsks, E}
+use Rattle.requests.specs.Making.{job_steps, OneAsks, E}
 use Rattle.requests.specs.Placing.{block_word, block_words, PlaceAsks}
-use Rattle.requests.proofs.Makes.{nth_job, inside, rest-is, nothing_left}
+use Rattle.requests.proofs.Makes.{nth_job, rest-is, nothing_left}
 
 cell-of-job : (c : ℕ) (f : Bool) → job_at c f / 2 ≡ c
 unfolding job_at

@@ -1,22 +1,20 @@
 -- Requests one after another: jobs added to jobs, and a refusal that stays. No word of the code.
 -- Assumes nothing.
-use Prim.Native.Nat.{ℕ, zero, suc, ◌+◌, ◌-◌, ◌<◌, ◌≤◌}
+use Prim.Native.Nat.{ℕ, suc, ◌+◌, ◌-◌, ◌<◌, ◌≤◌}
 use mathlib.Core.Path.{◌≡◌, refl, sym, ◌∙◌, ap, subst}
-use mathlib.Core.Bool.{Bool}
 use mathlib.Core.Option.{Option, none, some}
 use mathlib.Core.List.{List, [], ◌∷◌, ◌++◌}
 use mathlib.Core.Logic.{inl, inr}
 use native.Mathlib.Omega.{arith}
 use native.Mathlib.Decide.{le_ind}
-use native.Mathlib.Nat.{add-zero, zero-add, add_assoc}
 use lib.ListN.{length, length-append}
 use lib.Dec.{eqb}
 use Rattle.meaning.specs.Refusals.{Refusal, Answer, done, refused, ◌then◌}
 use Rattle.meaning.specs.Trees.{Forest, Acyclic, nth}
 use Rattle.meaning.specs.Trees as meaning
-use Rattle.meaning.specs.Order.{Job, Asked, nothing, there, ask}
+use Rattle.meaning.specs.Order.{Asked, nothing, there, ask}
 use Rattle.meaning.specs.Generation.{Request}
-use Rattle.meaning.specs.Asking.{both, ask_one, ask_all, ask-snoc, ask-refused}
+use Rattle.meaning.specs.Asking.{ask_one, ask_all, ask-snoc, ask-refused}
 use Rattle.kinds.specs.Write.{write, write-none, write-next}
 use Rattle.frames.specs.Tables.{request_in, first}
 use Rattle.frames.specs.declared.rest.Request as frame
@@ -24,7 +22,7 @@ use Rattle.pool.specs.Trees.{forest}
 use Rattle.pool.specs.Laws.Tabled.{expression-count}
 use Rattle.pool.specs.Laws.Forest.{nth-below, forest-has, forest-size}
 use Rattle.starkinfo_codegen.specs.Emitting.{Rest, tables_of, pool_of}
-use Rattle.starkinfo_codegen.specs.Ordering.{marks_of, job_words, State, Stopped, Made, Gives, World, CodeAsks, coded}
+use Rattle.starkinfo_codegen.specs.Ordering.{marks_of, job_words, State, Gives, CodeAsks, coded}
 use Rattle.starkinfo_codegen.specs.JobWords.{words_append, words-length}
 use Rattle.starkinfo_codegen.specs.Requests.{request-asks, request-is}
 use Rattle.requests.specs.Planning.{request_at, requests_in, Adds, Says, OneAsks, PlanAsks}

@@ -1,45 +1,34 @@
 -- The whole run over tables: requests on a fresh context, and the pool that is admitted before them. No word of the code.
 -- Assumes nothing.
-use Prim.Native.Nat.{ℕ, zero, suc, ◌+◌, ◌*◌, ◌-◌, ◌<◌, ◌≤◌}
+use Prim.Native.Nat.{ℕ, zero, suc, ◌+◌, ◌*◌, ◌-◌, ◌≤◌}
 use mathlib.Core.Path.{◌≡◌, refl, sym, ◌∙◌, ap, subst}
 use mathlib.Core.Bool.{Bool, true, false, ◌&&◌, cond}
-use mathlib.Core.Option.{Option, none, some}
-use mathlib.Core.List.{List, [], ◌∷◌, ◌++◌}
+use mathlib.Core.Option.{Option, none}
+use mathlib.Core.List.{List, []}
 use native.Mathlib.Omega.{arith}
-use native.Mathlib.Nat.{zero-add}
 use lib.ListN.{length, get_or, replicate}
 use lib.Dec.{leb, ltb}
 use borrow.Author.Tests.{leb-true, ltb-true, lt-ltb, le-leb}
-use Rattle.meaning.specs.Refusals.{Refusal, Answer, done, refused, ◌then◌, answer_no}
+use Rattle.meaning.specs.Refusals.{Refusal, Answer, done, refused, ◌then◌}
 use Rattle.meaning.specs.Trees.{Forest, Acyclic, Each}
-use Rattle.meaning.specs.Order.{Marks, unmarked, Job, Asked}
-use Rattle.meaning.specs.Generation.{Request, start, make, adding, serve_all}
+use Rattle.meaning.specs.Order.{Marks, unmarked, Job}
+use Rattle.meaning.specs.Generation.{Request, start, make, adding}
 use Rattle.meaning.specs.Building.{Segment, segment}
-use Rattle.meaning.specs.Building as meaning
 use Rattle.meaning.specs.Demand3.{NoResult}
 use Rattle.meaning.specs.Asking.{ask_all}
-use Rattle.meaning.specs.Laws.Tests.{true-false, and_left, and_right}
 use Rattle.meaning.specs.Laws.Once.{all_found}
 use Rattle.kinds.specs.Steps.{step_size}
 use Rattle.frames.specs.declared.count.Counts.{Counts}
-use Rattle.pool.specs.Pool.{Pool}
 use Rattle.pool.specs.Trees.{forest}
-use Rattle.pool.specs.Shaped.{Shaped}
 use Rattle.pool.specs.Verdict.{Verdict}
-use Rattle.pool.specs.Exactly.{exactly_0}
-use Rattle.pool.specs.Ranking.{Tabling}
-use Rattle.pool.specs.Admitting.{Admits, verdict_says}
-use Rattle.pool.specs.declared.admit.Admission.{Admission}
-use Rattle.pool.specs.declared.admit.Verdict as admit
-use Rattle.starkinfo_codegen.specs.Words.{node_of_words}
 use Rattle.starkinfo_codegen.specs.Emitting.{Rest, pool_of}
 use Rattle.starkinfo_codegen.specs.Ordering.{marks_of}
 use Rattle.starkinfo_codegen.specs.Requests.{start-state, start-marks}
 use Rattle.starkinfo_codegen.specs.Totals.{counter_is}
-use Rattle.requests.specs.Planning.{request_at, requests_in, PlanAsks}
+use Rattle.requests.specs.Planning.{request_at, requests_in}
 use Rattle.requests.specs.Making.{steps_from}
-use Rattle.requests.specs.Generating.{number_limit, Fits, Makes, Overflows, Serves, GenerateAsks}
-use Rattle.requests.specs.Whole.{fitting, served, Answers, totals, whole_says, list_after, Tells, FreshAsks, WholeAsked, pool_in}
+use Rattle.requests.specs.Generating.{number_limit, Fits, Makes, Serves, GenerateAsks}
+use Rattle.requests.specs.Whole.{fitting, served, Answers, whole_says, Tells, FreshAsks, WholeAsked, pool_in}
 use Rattle.requests.specs.declared.generate.Generation.{Generation}
 use Rattle.requests.specs.declared.generate.Generation.TheVariants as generation
 use Rattle.requests.specs.declared.whole.Whole.{Whole}

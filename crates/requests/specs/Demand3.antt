@@ -7,7 +7,7 @@ use Rattle.meaning.specs.Trees.{Acyclic}
 use Rattle.meaning.specs.Values.{Algebra, Given}
 use Rattle.meaning.specs.Models.{integers, modulo}
 use Rattle.meaning.specs.Generation.{start, serve_all}
-use Rattle.meaning.specs.Building.{Segment, segment, whole}
+use Rattle.meaning.specs.Building.{Segment, whole}
 use Rattle.meaning.specs.Demand3.{PlainLeaf, Throughout, AllGiven, Computes}
 use Rattle.meaning.specs.Proved.{demand3}
 use Rattle.meaning.specs.Laws.Tests.{then-done, done-same, done-not-refused}

@@ -4,9 +4,9 @@ use Rattle.std.specs.Prelude.{ℕ, ◌*◌, ◌<◌, ◌≤◌, ◌≡◌, ◌�
 use Rattle.std.proofs.Math.Path.{refl}
 use Rattle.std.proofs.Common.{sym, ◌∙◌, ap, subst, inl, inr, arith}
 use mathlib.Core.List.{List, [], ◌∷◌, map}
-use Rattle.meaning.specs.Refusals.{number, Answer, done, refused, ◌then◌, answer_no}
+use Rattle.meaning.specs.Refusals.{Answer, done, refused, ◌then◌, answer_no}
 use Rattle.meaning.specs.Trees.{Acyclic, Each, Forest}
-use Rattle.meaning.specs.Generation.{Request, start, serve_all}
+use Rattle.meaning.specs.Generation.{start, serve_all}
 use Rattle.meaning.specs.Building.{Segment}
 use Rattle.meaning.specs.Conditions.{Refused3, Refused5, FirstRefused, NoneRefused}
 use Rattle.meaning.specs.Exactly.{all_3, all_5, all_0, plain-only, whole-number}

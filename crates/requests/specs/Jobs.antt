@@ -5,7 +5,7 @@ use Rattle.std.specs.Prelude.{ℕ, zero, suc, ◌<◌, ◌≤◌, ◌≡◌, ref
 use Rattle.std.proofs.Common.{sym, ◌∙◌, ap, subst, append-nil, arith, zero-add, length-append, eqb-true}
 use Rattle.std.proofs.Math.Option.{Option, none, some}
 use Rattle.std.proofs.lemmas.Bool.{eqb-false}
-use Rattle.meaning.specs.Refusals.{Answer, done}
+use Rattle.meaning.specs.Refusals.{Answer}
 use Rattle.meaning.specs.Trees.{Expr, Forest, Acyclic, nth, Each}
 use Rattle.meaning.specs.Trees as meaning
 use Rattle.meaning.specs.Steps.{Ref, exp_cell}
@@ -17,7 +17,7 @@ use Rattle.meaning.specs.Asking.{ask_all}
 use Rattle.meaning.specs.Laws.Tests.{each-join, each_both}
 use Rattle.meaning.specs.Laws.Requests.{every_append}
 use Rattle.meaning.specs.Laws.Once.{Chain, all_once, all-rows, all_found}
-use Rattle.kinds.specs.Write.{write, write-there}
+use Rattle.kinds.specs.Write.{write-there}
 use Rattle.frames.specs.Tables.{first}
 use Rattle.pool.specs.Trees.{forest}
 use Rattle.pool.specs.Laws.Tabled.{expression-count}

@@ -1,6 +1,6 @@
 -- The blocks of jobs over tables: how many steps they have, and these written, as `make` says.
 -- Assumes nothing: these are definitions.
-use Rattle.std.specs.Prelude.{ℕ, ◌+◌, ◌*◌, ◌/◌, ◌%◌, ◌<◌, ◌≤◌, ◌≡◌, Bool, List, [], ◌∷◌, length, get_or, eqb}
+use Rattle.std.specs.Prelude.{ℕ, ◌+◌, ◌*◌, ◌/◌, ◌%◌, ◌<◌, ◌≤◌, ◌≡◌, List, [], ◌∷◌, length, get_or, eqb}
 use Rattle.meaning.specs.Trees.{Forest, nth, Each}
 use Rattle.meaning.specs.Steps.{Step}
 use Rattle.meaning.specs.Order.{Job}

@@ -9,7 +9,7 @@ use Rattle.meaning.specs.Laws.Tests.{done-same, done-not-refused}
 use Rattle.meaning.specs.Generation as meaning
 use Rattle.meaning.specs.Building.{Segment}
 use Rattle.frames.specs.Order.{Input, nothing, blame_answer}
-use Rattle.frames.specs.Tables.{Tables, node_in, expression_in, request_in, first, input_in}
+use Rattle.frames.specs.Tables.{Tables, request_in, first, input_in}
 use Rattle.frames.specs.Reading.{frames_in, read_from, reading, held, Fills}
 use Rattle.frames.specs.Exactly.{read_as}
 use Rattle.frames.specs.Text.{text_frames, reading_text, FillsText}
@@ -23,7 +23,7 @@ use Rattle.frames.specs.declared.count.Reading.TheVariants as was
 use Rattle.pool.specs.Pool.{Pool}
 use Rattle.pool.specs.Tabled.{tabled}
 use Rattle.pool.specs.Numbered.{pool_of}
-use Rattle.requests.specs.Planning.{request_of, request_at, requests_in}
+use Rattle.requests.specs.Planning.{request_of, requests_in}
 use Rattle.requests.specs.Whole.{Answers, WholeAsked, WholeGiven, pool_in}
 use Rattle.requests.specs.Runs.{requests_of, Runs, RunIs}
 use Rattle.requests.specs.declared.whole.Whole.{Whole}

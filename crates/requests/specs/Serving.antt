@@ -1,6 +1,6 @@
 -- Laws of whole runs: as asking and then making, that room for 8,192 steps always suffices, that only one answer fits, and what is accepted.
 -- Assumes nothing.
-use Rattle.std.specs.Prelude.{ℕ, zero, suc, ◌+◌, ◌*◌, ◌<◌, ◌≤◌, ◌≡◌, refl, Bool, true, false, ◌&&◌, cond, List, [], ◌∷◌, map, length, leb, ltb}
+use Rattle.std.specs.Prelude.{ℕ, ◌*◌, ◌<◌, ◌≤◌, ◌≡◌, refl, Bool, true, false, ◌&&◌, cond, List, [], ◌∷◌, map, length, leb, ltb}
 use Rattle.std.proofs.Common.{sym, ◌∙◌, ap, subst, arith, lt-ltb, le-leb, leb-true, ltb-true}
 use Rattle.std.proofs.Math.Option.{none}
 use Rattle.meaning.specs.Refusals.{Refusal, Answer, done, refused, ◌then◌}
@@ -11,14 +11,10 @@ use Rattle.meaning.specs.Building.{Segment, every, segment, whole}
 use Rattle.meaning.specs.Demand3.{NoResult}
 use Rattle.meaning.specs.Asking.{ask_all}
 use Rattle.meaning.specs.Holding.{serve_all-asks}
-use Rattle.meaning.specs.Laws.Tests.{each-join, then-done, done-same, done-not-refused}
+use Rattle.meaning.specs.Laws.Tests.{then-done, done-same, done-not-refused}
 use Rattle.meaning.specs.Laws.Once.{all_found}
 use Rattle.kinds.specs.Steps.{step_size}
-use Rattle.frames.specs.Order.{Input, nothing, node_limit, counts_of}
-use Rattle.frames.specs.Tables.{first}
-use Rattle.frames.specs.Reading.{read_from}
-use Rattle.frames.specs.Limits.{within_all}
-use Rattle.frames.specs.Ranges.{ranged-all}
+use Rattle.frames.specs.Order.{Input, node_limit}
 use Rattle.frames.specs.declared.rest.Request as frame
 use Rattle.pool.specs.Pool.{Pool}
 use Rattle.pool.specs.Trees.{forest}

@@ -1,4 +1,6 @@
 // Requests over tables: the blocks that they ask for, in order, and these blocks made.
+#![tactic(auto)]
+
 pub mod generate;
 pub mod last;
 pub mod make;
