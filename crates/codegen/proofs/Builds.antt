@@ -1,18 +1,16 @@
 -- A build of a context that was loaded, and of what was read. No word of the code.
 -- Assumes nothing.
-use Prim.Native.Nat.{ℕ, ◌+◌, ◌*◌, ◌<◌, ◌≤◌}
+use Prim.Native.Nat.{ℕ, ◌*◌, ◌≤◌}
 use mathlib.Core.Path.{◌≡◌, refl, sym, ◌∙◌, ap, subst}
 use mathlib.Core.Bool.{Bool, true, false, ◌&&◌, cond}
-use mathlib.Core.Option.{Option, none, some}
+use mathlib.Core.Option.{Option, none}
 use mathlib.Core.List.{List, []}
 use native.Mathlib.Omega.{arith}
 use lib.ListN.{length}
 use lib.Dec.{leb}
 use borrow.Author.Tests.{leb-true}
 use Rattle.meaning.specs.Refusals.{Refusal, Answer, done, refused, ◌then◌}
-use Rattle.meaning.specs.Trees.{Forest, nth}
-use Rattle.meaning.specs.Order.{Marks}
-use Rattle.meaning.specs.Building.{flagged}
+use Rattle.meaning.specs.Trees.{Forest}
 use Rattle.meaning.specs.Laws.Tests.{done-same, done-not-refused}
 use Rattle.kinds.specs.Write.{write}
 use Rattle.kinds.specs.Steps.{step_size, steps_bytes, steps-length}
@@ -34,21 +32,21 @@ use Rattle.starkinfo_codegen.specs.Emitting.{Rest}
 use Rattle.starkinfo_codegen.specs.Ordering.{marks_of}
 use Rattle.requests.specs.Whole.{pool_in}
 use Rattle.requests.specs.Reads.{ReadInto, read_is, pool-is}
-use Rattle.builds.specs.Raw.{RawBlock, RawSegment, start_of, raw_blocks, raw_segment, flagged_in}
+use Rattle.builds.specs.Raw.{RawSegment, start_of, raw_blocks, raw_segment, flagged_in}
 use Rattle.builds.specs.Numbered.{BlocksAsk}
-use Rattle.builds.specs.Lists.{list_of, list_in, CopyAsks, every-is, list-few}
+use Rattle.builds.specs.Lists.{list_in, CopyAsks, every-is, list-few}
 use Rattle.builds.specs.Flags.{flags_in, after-build}
 use Rattle.builds.specs.Marking.{release, release_length}
 use Rattle.builds.specs.declared.build.Which.{Which}
 use Rattle.builds.specs.declared.build.Which.TheVariants as which
-use Rattle.context.specs.Context.{cells, blocks_in, steps_in, temporaries_in, Good, Exactly}
+use Rattle.context.specs.Context.{blocks_in, steps_in, temporaries_in, Good, Exactly}
 use Rattle.context.specs.Tables.{marks_in, words_in, Read16}
 use Rattle.context.specs.Held.{stored_in}
-use Rattle.codegen.specs.Said.{Said, said, segment_said, after_said}
+use Rattle.codegen.specs.Said.{said, segment_said, after_said}
 use Rattle.codegen.specs.Written.{mark_bytes}
 use Rattle.codegen.specs.Committing.{no_words, StoreAsked}
 use Rattle.codegen.specs.Serving.{OrMalformed}
-use Rattle.codegen.specs.Building.{Lists, lists, fits_all, built_on, AnsweredBuild, Builds, lists_with, sizes, built_says, TellsBuilt, forest_read, BuildAsks}
+use Rattle.codegen.specs.Building.{Lists, lists, fits_all, built_on, AnsweredBuild, Builds, sizes, built_says, TellsBuilt, forest_read, BuildAsks}
 use Rattle.codegen.specs.declared.build.Built.{Built}
 use Rattle.codegen.specs.declared.build.Built.TheVariants as built
 use Rattle.codegen.specs.Loads as loads

@@ -1,12 +1,12 @@
 -- Blocks committed, in terms of numbers that were read from the context.
 -- Assumes nothing.
 use Prim.Native.Nat.{ℕ, suc, ◌+◌, ◌*◌, ◌-◌, ◌/◌, ◌%◌, ◌<◌, ◌≤◌}
-use mathlib.Core.Path.{◌≡◌, refl, sym, ◌∙◌, ap, subst}
-use mathlib.Core.Bool.{Bool, true, false}
+use mathlib.Core.Path.{◌≡◌, sym, ◌∙◌, ap}
+use mathlib.Core.Bool.{true, false}
 use mathlib.Core.List.{List}
 use native.Mathlib.Omega.{arith}
 use lib.ListN.{length, get_or, set}
-use Rattle.meaning.specs.Refusals.{Answer, ◌then◌}
+use Rattle.meaning.specs.Refusals.{◌then◌}
 use Rattle.meaning.specs.Order.{Job}
 use Rattle.kinds.specs.Write.{write, write-length}
 use Rattle.kinds.specs.Steps.{step_size}

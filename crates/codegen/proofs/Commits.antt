@@ -1,50 +1,35 @@
 -- Blocks added to tables that a good context was loaded into, and a result copied: what the tables and the list then say, how many steps there are, and
 -- what is stored. No word of the code.
 -- Assumes nothing.
-use Prim.Native.Nat.{ℕ, zero, suc, ◌+◌, ◌*◌, ◌-◌, ◌/◌, ◌%◌, ◌<◌, ◌≤◌}
-use mathlib.Core.Path.{◌≡◌, refl, sym, ◌∙◌, ap, subst}
-use mathlib.Core.Bool.{Bool, true, false, cond}
-use mathlib.Core.Option.{Option, none, some, none-ne-some}
-use mathlib.Core.List.{List, [], ◌∷◌, ◌++◌, append-nil}
+use Prim.Native.Nat.{ℕ, zero, suc, ◌+◌, ◌*◌, ◌-◌, ◌<◌, ◌≤◌}
+use mathlib.Core.Path.{◌≡◌, refl, sym, ◌∙◌, ap}
+use mathlib.Core.List.{List, [], ◌∷◌, ◌++◌}
 use mathlib.Core.Logic.{⊎_elim}
 use native.Mathlib.Omega.{arith}
 use native.Mathlib.Nat.{zero-add, not-suc-le-zero, le_of_suc-le-suc}
-use lib.ListN.{length, get_or, set, take, drop, replicate, length-append, length-replicate, get_or-append, length-set}
-use lib.Seq.{ext_get_or, get_or-drop}
-use Rattle.meaning.specs.Refusals.{Refusal, Answer, done, refused, ◌then◌}
-use Rattle.meaning.specs.Trees.{Forest, nth, Each}
-use Rattle.meaning.specs.Trees as meaning
-use Rattle.meaning.specs.Steps.{Ref, exp_cell}
-use Rattle.meaning.specs.Emission.{emit, block_steps}
-use Rattle.meaning.specs.Order.{Marks, Job, asked}
-use Rattle.meaning.specs.Generation.{Block, make_one, make}
+use lib.ListN.{length, get_or, length-append, get_or-append}
+use Rattle.meaning.specs.Trees.{Forest, Each}
+use Rattle.meaning.specs.Order.{Job}
+use Rattle.meaning.specs.Generation.{Block, make}
 use Rattle.meaning.specs.Building as building
-use Rattle.meaning.specs.Laws.Tests.{each_map}
-use Rattle.kinds.specs.Write.{write, write-length, write-there, write-before, write-after}
+use Rattle.kinds.specs.Write.{write, write-length, write-there, write-before}
 use Rattle.kinds.specs.Records.{Same}
-use Rattle.kinds.specs.Steps.{step_size, step_at, steps_of, step_same, steps-length}
-use Rattle.kinds.specs.declared.reference.Reference.{Reference}
-use Rattle.frames.specs.Tables.{first}
-use Rattle.frames.specs.Packing.{first-same}
-use Rattle.pool.specs.Trees.{forest}
-use Rattle.pool.specs.Laws.Tabled.{expression-count}
-use Rattle.pool.specs.Laws.Forest.{forest-has}
-use Rattle.starkinfo_codegen.specs.Encoding.{records, records-length, encoded, encoded-length}
-use Rattle.starkinfo_codegen.specs.Emitting.{Rest, tables_of, pool_of}
-use Rattle.starkinfo_codegen.specs.Ordering.{cell_of, marks_of}
+use Rattle.kinds.specs.Steps.{step_size, step_at, step_same}
+use Rattle.starkinfo_codegen.specs.Encoding.{records-length, encoded}
+use Rattle.starkinfo_codegen.specs.Emitting.{Rest}
+use Rattle.starkinfo_codegen.specs.Ordering.{marks_of}
 use Rattle.starkinfo_codegen.specs.Totals.{Found, counter_is}
-use Rattle.requests.specs.Making.{JobThere, steps_from, job_steps, all_steps, E, SizeIs, JobsAsk}
-use Rattle.requests.specs.Placing.{block_word, block_words}
-use Rattle.requests.specs.Jobs.{steps-any, steps-count, some-steps}
-use Rattle.builds.specs.Raw.{RawBlock, cell_in, steps_in, start_of, records_from, raw_block_at, raw_blocks, every, copy_into}
-use Rattle.builds.specs.RawOf.{raw_of, raw-append, raw-every}
-use Rattle.builds.specs.Starts.{records-same, start-next, start-le}
-use Rattle.builds.specs.Held.{words_of, Celled, raw-added}
-use Rattle.context.specs.Context.{cells, context_size, blocks_in, steps_in as count_in, temporaries_in, Good}
-use Rattle.context.specs.Tables.{marks_in, words_in, words-length}
+use Rattle.requests.specs.Making.{JobThere, steps_from, all_steps, E}
+use Rattle.requests.specs.Placing.{block_words}
+use Rattle.requests.specs.Jobs.{steps-count, some-steps}
+use Rattle.builds.specs.Raw.{RawBlock, steps_in, start_of, raw_blocks, every}
+use Rattle.builds.specs.RawOf.{raw_of, raw-every}
+use Rattle.builds.specs.Held.{words_of, raw-added}
+use Rattle.context.specs.Context.{cells, blocks_in, steps_in as count_in, temporaries_in}
+use Rattle.context.specs.Tables.{marks_in}
 use Rattle.context.specs.Zeros.{below_or}
-use Rattle.context.specs.Held.{all_steps as word_steps, loaded-held, good-sound, Sound}
-use Rattle.codegen.specs.Said.{Said, said, adding}
+use Rattle.context.specs.Held.{Sound}
+use Rattle.codegen.specs.Said.{Said, said}
 use Rattle.codegen.specs.Written.{raw-steps}
 use Rattle.codegen.specs.Committing.{CommitAsks, after_jobs}
 use Rattle.codegen.specs.Made.{found_all, made-words, made-count, made_cells}

@@ -2,8 +2,8 @@
 -- Assumes nothing.
 use Prim.Native.Nat.{ℕ, suc, ◌+◌, ◌*◌, ◌-◌, ◌/◌, ◌<◌, ◌≤◌}
 use mathlib.Core.Path.{◌≡◌, refl, sym, ◌∙◌, ap, subst}
-use mathlib.Core.Bool.{Bool, true, false, ◌&&◌, cond}
-use mathlib.Core.Option.{Option, none, some}
+use mathlib.Core.Bool.{true, false, ◌&&◌, cond}
+use mathlib.Core.Option.{none, some}
 use mathlib.Core.List.{List, ◌++◌}
 use native.Mathlib.Omega.{arith}
 use lib.ListN.{length, get_or, set, drop, replicate, length-append, length-replicate, length-set, length-drop}
@@ -11,32 +11,31 @@ use lib.Seq.{ext_get_or, get_or-drop}
 use lib.Dec.{leb, ltb}
 use borrow.Author.Tests.{leb-true, ltb-true}
 use Rattle.meaning.specs.Refusals.{Refusal, Answer, done, refused, ◌then◌}
-use Rattle.meaning.specs.Trees.{Forest, Each}
 use Rattle.meaning.specs.Order.{Job}
 use Rattle.meaning.specs.Laws.Tests.{and_left, and_right}
-use Rattle.kinds.specs.Write.{write, write-length, write-there, write-before, write-after}
+use Rattle.kinds.specs.Write.{write, write-length, write-after}
 use Rattle.kinds.specs.Steps.{step_size, step_at, step_bytes, steps_bytes, step-sized, steps-length, steps-bytes-length}
 use Rattle.kinds.specs.declared.reference.Reference.{Reference}
 use Rattle.starkinfo_codegen.specs.Encoding.{encoded, encoded-length}
 use Rattle.starkinfo_codegen.specs.Emitting.{Rest}
 use Rattle.starkinfo_codegen.specs.Ordering.{cell_of, marks_of}
 use Rattle.starkinfo_codegen.specs.Sources.{copy_step}
-use Rattle.requests.specs.Making.{steps_from, job_steps, all_steps, SizeIs, Room, JobThere}
+use Rattle.requests.specs.Making.{steps_from, SizeIs, Room}
 use Rattle.requests.specs.Generating.{number_limit}
-use Rattle.requests.specs.Placing.{block_words, PlaceAsks}
-use Rattle.requests.specs.Jobs.{steps-count, some-steps}
+use Rattle.requests.specs.Placing.{PlaceAsks}
+use Rattle.requests.specs.Jobs.{steps-count}
 use Rattle.builds.specs.Raw.{RawBlock, steps_in, start_of, records_from, raw_blocks, every, copy_into}
 use Rattle.builds.specs.Starts.{start-next, start-le}
 use Rattle.builds.specs.Results.{find_block, inserted}
 use Rattle.builds.specs.Copies.{find-here, copy-nowhere, copy-put, copy-steps}
 use Rattle.builds.specs.declared.result.Found.TheVariants as found
-use Rattle.context.specs.Context.{cells, context_size}
+use Rattle.context.specs.Context.{cells}
 use Rattle.context.specs.Held.{stored_in}
 use Rattle.codegen.specs.Said.{Said}
-use Rattle.codegen.specs.Written.{mark_bytes, fits, fitting, Stands, ListWith, raw-steps, stored-with, steps-with}
+use Rattle.codegen.specs.Written.{mark_bytes, fits, fitting, ListWith, raw-steps, stored-with, steps-with}
 use Rattle.codegen.specs.Committing.{CommitAsks, Tells, copied, StoreAsked, PutAsked}
 use Rattle.codegen.specs.declared.commit.Served.TheVariants as served
-use Rattle.codegen.proofs.Commits.{G, B, at, T, t', after, sound, full, full', start-at, steps-after, counter-after, added, longer-steps, some-step}
+use Rattle.codegen.proofs.Commits.{G, B, at, T, t', after, sound, full, full', steps-after, counter-after, added, longer-steps, some-step}
 
 -- ── lists ────────────────────────────────────────────────────────────────────
 drop_past : (l : List ℕ) (i : ℕ) (ws : List ℕ) (n : ℕ) → i + length ws ≤ n → drop n (write l i ws) ≡ drop n l

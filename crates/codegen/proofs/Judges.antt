@@ -1,22 +1,22 @@
 -- What was read, judged in order: the result, the context, the pool, and then the requests. No word of the code.
 -- Assumes nothing.
-use Prim.Native.Nat.{ℕ, zero, suc, ◌+◌, ◌-◌, ◌<◌, ◌≤◌}
+use Prim.Native.Nat.{ℕ, ◌+◌, ◌-◌, ◌<◌}
 use mathlib.Core.Path.{◌≡◌, refl, sym, ◌∙◌, ap, subst}
-use mathlib.Core.Bool.{Bool, true, false, ◌&&◌, cond}
-use mathlib.Core.Option.{Option, none, some}
-use mathlib.Core.List.{List, [], ◌∷◌}
+use mathlib.Core.Bool.{Bool, true, false, ◌&&◌}
+use mathlib.Core.Option.{Option, none}
+use mathlib.Core.List.{List, []}
 use native.Mathlib.Omega.{arith}
 use lib.ListN.{length}
-use lib.Dec.{eqb, ltb}
+use lib.Dec.{ltb}
 use borrow.Author.Tests.{ne_eqb, ltb-true}
 use Rattle.meaning.specs.Refusals.{Refusal, Answer, done, refused, ◌then◌}
-use Rattle.meaning.specs.Trees.{Forest, Acyclic, Each}
+use Rattle.meaning.specs.Trees.{Acyclic}
 use Rattle.meaning.specs.Generation.{Result, Request}
 use Rattle.meaning.specs.Demand3.{NoResult}
 use Rattle.meaning.specs.Laws.Tests.{done-same, done-not-refused, and_left, and_right}
 use Rattle.kinds.specs.Kinds.{is_result}
 use Rattle.frames.specs.Order.{Input, blame_answer}
-use Rattle.frames.specs.Tables.{Tables, input_in, first, expression_in, request_in}
+use Rattle.frames.specs.Tables.{Tables, input_in, expression_in, request_in}
 use Rattle.frames.specs.Packing.{first-length}
 use Rattle.frames.specs.declared.count.Counts.{Counts}
 use Rattle.frames.specs.declared.count.Blame.{Blame}
@@ -30,7 +30,7 @@ use Rattle.pool.specs.Numbered.{pool_of}
 use Rattle.starkinfo_codegen.specs.Emitting as emitting
 use Rattle.starkinfo_codegen.specs.Emitting.{Rest}
 use Rattle.requests.specs.Planning.{request_at, requests_in}
-use Rattle.requests.specs.Whole.{FreshAsks, WholeAsked, pool_in}
+use Rattle.requests.specs.Whole.{WholeAsked, pool_in}
 use Rattle.requests.specs.Jobs.{each_first}
 use Rattle.requests.specs.Admitted.{rest, acyclic, fresh-asks}
 use Rattle.requests.specs.Runs.{requests_of}
@@ -43,7 +43,6 @@ use Rattle.codegen.specs.Serving.{OrMalformed, served_on, Answered, Serves, Serv
 use Rattle.codegen.specs.declared.asked.Wanted.{Wanted}
 use Rattle.codegen.specs.declared.commit.Served.{Served}
 use Rattle.codegen.specs.declared.commit.Served.TheVariants as served
-use Rattle.codegen.proofs.Serves.{refusal-tells}
 
 -- ── asking for a result or for none ──────────────────────────────────────────
 module _ (w : Wanted) (count : ℕ) where

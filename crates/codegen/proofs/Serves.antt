@@ -1,22 +1,22 @@
 -- Requests on a context that was loaded: planned, and then committed. No word of the code.
 -- Assumes nothing.
-use Prim.Native.Nat.{ℕ, zero, suc, ◌+◌, ◌*◌, ◌<◌, ◌≤◌}
+use Prim.Native.Nat.{ℕ, zero, suc, ◌+◌, ◌*◌, ◌<◌}
 use mathlib.Core.Path.{◌≡◌, refl, sym, ◌∙◌, ap, subst}
 use mathlib.Core.Bool.{Bool, true, false, ◌||◌, cond}
 use mathlib.Core.Option.{Option, none, some}
 use mathlib.Core.List.{List, [], ◌∷◌, ◌++◌}
 use native.Mathlib.Omega.{arith}
-use lib.ListN.{length, take, drop, length-take, length-drop, replicate, length-replicate}
+use lib.ListN.{length, length-take, length-drop, length-replicate}
 use lib.Dec.{eqb}
 use borrow.Author.Tests.{ne_eqb}
 use Rattle.meaning.specs.Refusals.{Refusal, Answer, done, refused, ◌then◌}
 use Rattle.meaning.specs.Trees.{Forest, Acyclic, Each}
-use Rattle.meaning.specs.Steps.{Kind, kind_no, Cell, Ref}
+use Rattle.meaning.specs.Steps.{Kind, kind_no}
 use Rattle.meaning.specs.Order.{Marks, Job, Asked}
 use Rattle.meaning.specs.Generation.{Result, result, Request, plain_result}
 use Rattle.meaning.specs.Demand3.{NoResult}
 use Rattle.meaning.specs.Asking.{both, ask_one, ask_all, ask-snoc}
-use Rattle.meaning.specs.Holding.{copy_on, result_allowed, all-asks, last-asks}
+use Rattle.meaning.specs.Holding.{result_allowed, all-asks, last-asks}
 use Rattle.meaning.specs.Laws.Once.{Chain}
 use Rattle.meaning.specs.Laws.Tests.{then-done, done-same, done-not-refused, true-false}
 use Rattle.kinds.specs.Kinds.{is_result}
@@ -26,7 +26,6 @@ use Rattle.kinds.specs.declared.reference.Reference.{Reference}
 use Rattle.frames.specs.Tables.{request_in, first}
 use Rattle.frames.specs.declared.rest.Request as frame
 use Rattle.pool.specs.Trees.{forest}
-use Rattle.starkinfo_codegen.specs.Encoding.{ref_of}
 use Rattle.starkinfo_codegen.specs.Emitting.{Rest, pool_of}
 use Rattle.starkinfo_codegen.specs.Ordering.{cell_of, marks_of}
 use Rattle.starkinfo_codegen.specs.Requests.{start-state}
@@ -34,15 +33,14 @@ use Rattle.requests.specs.Planning.{request_at, requests_in, Adds, Says, PlanAsk
 use Rattle.requests.specs.Last.{MarkedBefore, LastSays}
 use Rattle.requests.specs.Making.{E}
 use Rattle.requests.specs.Jobs.{each_first, jobs-ask, jobs-there, jobs-once}
-use Rattle.requests.specs.Whole.{FreshAsks}
 use Rattle.requests.specs.declared.plan.Plan.{Plan}
 use Rattle.requests.specs.declared.plan.Plan.TheVariants as plan
 use Rattle.requests.specs.declared.last.LastPlan.{LastPlan}
 use Rattle.requests.specs.declared.last.LastPlan.TheVariants as last
-use Rattle.context.specs.Context.{cells, context_size, marks_at, blocks_in, steps_in, temporaries_in, Good}
+use Rattle.context.specs.Context.{cells, blocks_in, steps_in, temporaries_in, Good}
 use Rattle.context.specs.Tables.{marks_in, words_in, MarksAsk, LoadAsks}
 use Rattle.context.specs.Held.{loaded-held, good-sound}
-use Rattle.codegen.specs.Said.{Said, said, adding, sayings, sayings_lawful, serve_said, with_blocks, copying}
+use Rattle.codegen.specs.Said.{Said, said, adding, sayings, sayings_lawful, copying}
 use Rattle.codegen.specs.Results.{result_from, result_of, asking, kind-of}
 use Rattle.codegen.specs.declared.asked.Wanted.{Wanted}
 use Rattle.codegen.specs.Written.{fitting}

@@ -1,13 +1,13 @@
 -- Tests, marks byte by byte, and a result put in. No word of the code.
 -- Assumes nothing.
-use Prim.Native.Nat.{ℕ, zero, suc, ◌+◌, ◌*◌, ◌/◌, ◌%◌, ◌<◌, ◌≤◌}
+use Prim.Native.Nat.{ℕ, suc, ◌+◌, ◌*◌, ◌/◌, ◌%◌, ◌<◌, ◌≤◌}
 use mathlib.Core.Path.{◌≡◌, refl, sym, ◌∙◌, ap}
-use mathlib.Core.Bool.{Bool, true, false, ◌&&◌, ◌||◌, cond}
+use mathlib.Core.Bool.{Bool, true, false, ◌||◌, cond}
 use mathlib.Core.List.{List, [], ◌∷◌, ◌++◌, append-nil}
 use native.Mathlib.Omega.{arith}
-use lib.ListN.{length, get_or, set, drop, length-append}
+use lib.ListN.{length, get_or, set, drop}
 use lib.Seq.{drop-cons, drop-length, get_or_at, set_at}
-use lib.Dec.{leb, ltb, eqb}
+use lib.Dec.{ltb, eqb}
 use borrow.Author.Tests.{eq-eqb, ne_eqb, lt-ltb, le-ltb, le-leb, lt-leb}
 use Rattle.kinds.specs.Kinds.{is_result}
 use Rattle.kinds.specs.Steps.{step_size}
@@ -15,7 +15,7 @@ use Rattle.kinds.specs.declared.reference.Reference.{Reference}
 use Rattle.frames.specs.Tables.{first}
 use Rattle.frames.specs.Packing.{first-length}
 use Rattle.starkinfo_codegen.specs.Ordering.{marks_of}
-use Rattle.builds.specs.Raw.{steps_in, start_of}
+use Rattle.builds.specs.Raw.{start_of}
 use Rattle.builds.specs.Starts.{start-next}
 use Rattle.builds.specs.Results.{inserted, StartAsks, GrowAsks, InsertAsks}
 use Rattle.context.specs.Context.{cells}

@@ -1,7 +1,7 @@
 -- Blocks that were planned, committed to a context and its list: added after those that stand, and a result copied; all or nothing.
 -- Assumes nothing: these are definitions.
 use Rattle.std.specs.Prelude.{ℕ, suc, ◌+◌, ◌*◌, ◌/◌, ◌<◌, ◌≤◌, ◌≡◌, List, length, get_or, replicate}
-use Rattle.std.proofs.Math.Option.{Option, none, some}
+use Rattle.std.proofs.Math.Option.{none, some}
 use Rattle.meaning.specs.Refusals.{Refusal, Answer, done, refused, ◌then◌}
 use Rattle.meaning.specs.Trees.{Forest}
 use Rattle.meaning.specs.Order.{Marks, Job}

@@ -3,7 +3,7 @@
 -- Assumes nothing.
 use Rattle.std.specs.Prelude.{ℕ, zero, suc, ◌*◌, ◌<◌, ◌≤◌, ◌≡◌, Bool, ◌&&◌, cond, List, [], ◌∷◌, ◌⊎◌, ◌↔◌, length}
 use Rattle.std.proofs.Math.Path.{refl}
-use Rattle.std.proofs.Common.{sym, ◌∙◌, ap, subst, arith, le-leb, leb-false, lt-ltb, le-ltb, ltb-false}
+use Rattle.std.proofs.Common.{sym, ◌∙◌, ap, subst, arith, leb-false, le-ltb, ltb-false}
 use Rattle.std.proofs.Math.Bool.{true, false}
 use Rattle.std.proofs.Math.Option.{Option, none, some}
 use Rattle.std.proofs.Math.Logic.{inl, inr}
@@ -15,7 +15,7 @@ use Rattle.meaning.specs.Steps.{Cell, Ref}
 use Rattle.meaning.specs.Order.{there, ask}
 use Rattle.meaning.specs.Generation.{State, Result, result, Request, plain_result, serve_all}
 use Rattle.meaning.specs.Holding.{mapped, copy_on, serve_on}
-use Rattle.meaning.specs.Laws.Tests.{done-not-refused, true-false, number-not-zero, then-done}
+use Rattle.meaning.specs.Laws.Tests.{true-false, number-not-zero}
 use Rattle.meaning.specs.Laws.Levels.{OnlyDouble, asks-refuse_5}
 use Rattle.kinds.specs.Steps.{step_size}
 use Rattle.frames.specs.Order.{Input}
@@ -30,7 +30,7 @@ use Rattle.requests.specs.Runs.{requests_of}
 use Rattle.starkinfo_codegen.specs.Encoding.{ref_of}
 use Rattle.builds.specs.Raw.{RawBlock, RawSegment, copy_into}
 use Rattle.context.specs.Context.{Good, Exactly}
-use Rattle.codegen.specs.Said.{Said, said, with_blocks, copying, sayings, serve_said, said_of, serve-said, segment_said}
+use Rattle.codegen.specs.Said.{Said, said, with_blocks, sayings, serve_said, said_of, serve-said, segment_said}
 use Rattle.codegen.specs.Results.{result_of, asking, result_good}
 use Rattle.codegen.specs.Written.{step_count, fits, fitting}
 use Rattle.codegen.specs.Serving.{OrMalformed, served_on, Answered, Serves}

@@ -16,7 +16,7 @@ use Rattle.pool.specs.Laws.Forest.{forest-has}
 use Rattle.starkinfo_codegen.specs.Emitting.{Rest, tables_of, pool_of}
 use Rattle.starkinfo_codegen.specs.Ordering.{cell_of}
 use Rattle.starkinfo_codegen.specs.Totals.{Found}
-use Rattle.requests.specs.Making.{JobThere, job_steps, E}
+use Rattle.requests.specs.Making.{JobThere, E}
 use Rattle.requests.specs.Placing.{block_words}
 use Rattle.requests.specs.Jobs.{steps-any}
 use Rattle.builds.specs.Held.{words_of, Celled}

@@ -1,7 +1,7 @@
 -- A block table has room for the blocks of jobs: no cell has two blocks, and a job's cell has no mark, while a block's has one.
 -- Assumes nothing.
-use Rattle.std.specs.Prelude.{ℕ, zero, suc, ◌+◌, ◌*◌, ◌<◌, ◌≤◌, ◌≡◌, refl, List, [], ◌∷◌, length, get_or, set}
-use Rattle.std.proofs.Common.{sym, ◌∙◌, arith, not-suc-le-zero, le_of_suc-le-suc, length-set, get_or-set_other}
+use Rattle.std.specs.Prelude.{ℕ, zero, suc, ◌+◌, ◌<◌, ◌≤◌, ◌≡◌, List, [], ◌∷◌, length, get_or, set}
+use Rattle.std.proofs.Common.{◌∙◌, arith, not-suc-le-zero, le_of_suc-le-suc, length-set, get_or-set_other}
 use Rattle.meaning.specs.Trees.{Each}
 use Rattle.meaning.specs.Order.{Job}
 use Rattle.meaning.specs.Laws.Once.{Chain}

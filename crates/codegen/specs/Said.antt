@@ -1,17 +1,17 @@
 -- WHAT A CONTEXT AND ITS LIST SAY: marks, blocks of raw records, the counter. Requests are served over it, and built from it, in the words of `meaning`.
 -- Where it is a context of `meaning` with its steps as records, so is what serving and building give.
 -- Assumes nothing.
-use Rattle.std.specs.Prelude.{ℕ, ◌≡◌, refl, Bool, ◌&&◌, ◌||◌, List, [], ◌++◌, ltb}
+use Rattle.std.specs.Prelude.{ℕ, ◌≡◌, refl, ◌&&◌, ◌||◌, List, [], ◌++◌, ltb}
 use Rattle.std.proofs.Common.{sym, ◌∙◌, ap, append_assoc, append-nil}
 use Rattle.std.proofs.Math.Option.{Option, none, some}
 use Rattle.meaning.specs.Refusals.{Refusal, Answer, done, refused}
 use Rattle.meaning.specs.Trees.{Forest, nth}
 use Rattle.meaning.specs.Steps.{Cell, Ref}
-use Rattle.meaning.specs.Order.{Marks, Asked, nothing}
+use Rattle.meaning.specs.Order.{Marks, Asked}
 use Rattle.meaning.specs.Generation.{Block, State, Result, result, Request, Made, make, serve_all}
 use Rattle.meaning.specs.Generation as meaning
 use Rattle.meaning.specs.Building.{flagged, released, after_build, segment}
-use Rattle.meaning.specs.Asking.{both, make-append}
+use Rattle.meaning.specs.Asking.{make-append}
 use Rattle.meaning.specs.Holding.{Holding, Lawful, Carries, mapped, serve_all_on, states, all_carried, serve_all-on}
 use Rattle.starkinfo_codegen.specs.Encoding.{ref_of}
 use Rattle.starkinfo_codegen.specs.Ordering.{marks_of}

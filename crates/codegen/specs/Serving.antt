@@ -1,7 +1,7 @@
 -- REQUESTS ON A LENT CONTEXT: the answer to a slice of frames, a result that the last request asks for, a context and its list; and what stands in both
 -- after it. The order of refusals: 1 and 9 while reading, 1 of the result, 1 of the context, 2, 3 and 4 of the pool, 3, 5, 7 and 8 of the requests, 9.
 -- Assumes nothing: these are definitions.
-use Rattle.std.specs.Prelude.{ℕ, ◌+◌, ◌<◌, ◌≡◌, Bool, true, false, List, [], length}
+use Rattle.std.specs.Prelude.{ℕ, ◌≡◌, Bool, true, false, List, [], length}
 use Rattle.std.proofs.Math.Option.{Option, none}
 use Rattle.meaning.specs.Refusals.{Refusal, Answer, done, refused, ◌then◌}
 use Rattle.meaning.specs.Trees.{Forest, Acyclic}

@@ -1,15 +1,15 @@
 -- DEMAND 3 THROUGH A CONTEXT: from a fresh one, calls that serve requests of one pool without a result, and a build. Whatever the calls were, the first list
 -- that is built computes what the pool and all the requests say.
 -- Assumes nothing.
-use Rattle.std.specs.Prelude.{ℕ, zero, suc, ◌+◌, ◌*◌, ◌-◌, ◌/◌, ◌%◌, ◌<◌, ◌≤◌, ◌≡◌, refl, Bool, true, false, ◌&&◌, ◌||◌, cond, ◌⊎◌, length, get_or, take, drop, replicate, eqb, ltb}
+use Rattle.std.specs.Prelude.{ℕ, suc, ◌+◌, ◌*◌, ◌-◌, ◌/◌, ◌%◌, ◌<◌, ◌≤◌, ◌≡◌, refl, Bool, true, false, ◌&&◌, ◌||◌, cond, length, get_or, take, replicate, eqb, ltb}
 use Rattle.std.proofs.Math.Path.{sym, ap, fun_ext}
-use Rattle.std.proofs.Common.{◌∙◌, subst, inl, inr, ⊎_elim, arith, zero-add, length-append, take_at, ltb-true, ltb-false, eqb-true}
-use Rattle.std.proofs.Math.Option.{Option, none, some}
+use Rattle.std.proofs.Common.{◌∙◌, subst, arith, zero-add, length-append, take_at, ltb-true, ltb-false, eqb-true}
+use Rattle.std.proofs.Math.Option.{Option, none}
 use mathlib.Core.List.{List, [], ◌∷◌, ◌++◌}
 use Rattle.std.proofs.lemmas.List.{length-replicate}
 use Rattle.std.proofs.Math.ListN.{get_or-eq_default}
 use Rattle.meaning.specs.Refusals.{Refusal, Answer, done, refused, ◌then◌}
-use Rattle.meaning.specs.Trees.{Forest, Acyclic, nth, Each}
+use Rattle.meaning.specs.Trees.{Forest, Acyclic, Each}
 use Rattle.meaning.specs.Order.{Marks, unmarked, marking, Job, Asked}
 use Rattle.meaning.specs.Generation.{Block, State, start, Result, Request, make, adding, serve_all}
 use Rattle.meaning.specs.Building as building
@@ -26,7 +26,7 @@ use Rattle.meaning.specs.Laws.Jobs.{after}
 use Rattle.meaning.specs.Laws.Once.{Chain, all_once, all-rows, all_found, all-marks}
 use Rattle.kinds.specs.Write.{write, write-length}
 use Rattle.kinds.specs.BigEndian.{u16_at}
-use Rattle.kinds.specs.Steps.{step_size, steps_of}
+use Rattle.kinds.specs.Steps.{steps_of}
 use Rattle.frames.specs.Order.{Input, nothing, counts_of}
 use Rattle.frames.specs.Reading.{frames_in, read_from, reading}
 use Rattle.frames.specs.Exactly.{read_as}
@@ -44,16 +44,16 @@ use Rattle.starkinfo_codegen.specs.Totals.{Found}
 use Rattle.requests.specs.Runs.{requests_of}
 use Rattle.requests.specs.Serving.{plain-requests}
 use Rattle.requests.specs.Exactly.{rows-low}
-use Rattle.builds.specs.Raw.{RawBlock, RawSegment, raw_block_at, raw_blocks, records_from, every}
+use Rattle.builds.specs.Raw.{RawBlock, RawSegment, raw_block_at, raw_blocks, records_from}
 use Rattle.builds.specs.RawOf.{raw_of, raw-every}
 use Rattle.builds.specs.Held.{words_of, Celled, held_all, held_none}
-use Rattle.context.specs.Context.{marks_at, blocks_at, steps_at, temporaries_at, table_at, cells, context_size, place_of, blocks_in, steps_in, temporaries_in, entry_in, Good}
-use Rattle.context.specs.Tables.{marks_in, words_in, entry_of, counter_bytes, table_bytes, with_counters, with_marks, with_blocks, fresh_bytes}
+use Rattle.context.specs.Context.{marks_at, blocks_at, temporaries_at, table_at, cells, context_size, blocks_in, temporaries_in, entry_in, Good}
+use Rattle.context.specs.Tables.{marks_in, words_in, counter_bytes, table_bytes, with_counters, with_marks, with_blocks, fresh_bytes}
 use Rattle.context.specs.Zeros.{zeros-at}
 use Rattle.context.specs.Held.{held-words, fresh-held}
 use Rattle.context.specs.Stored as stored
 use Rattle.codegen.specs.Said.{Said, said, said_of, serve_said, serve-said, segment_said, segment-said}
-use Rattle.codegen.specs.Results.{result_of, asking, no_result, asking-none}
+use Rattle.codegen.specs.Results.{asking, no_result, asking-none}
 use Rattle.codegen.specs.Written.{mark_byte, mark_bytes, raw_words, step_count, context_with, ListWith, fits, fitting}
 use Rattle.codegen.specs.Serving.{served_on}
 use Rattle.codegen.specs.Loads as loads

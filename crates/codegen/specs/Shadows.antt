@@ -1,28 +1,27 @@
 -- 3, 5, 7 AND 8 OF REQUESTS ON ANY GOOD CONTEXT, whatever steps its list holds: they hang on marks and on which blocks stand, so they are those of a context of
 -- `meaning` with the same marks and a block for each of its own.
 -- Assumes nothing.
-use Rattle.std.specs.Prelude.{ℕ, suc, ◌+◌, ◌*◌, ◌<◌, ◌≤◌, ◌≡◌, refl, Bool, true, false, ◌&&◌, cond, List, [], ◌∷◌, ◌++◌, ◌↔◌, length, get_or, drop, eqb}
+use Rattle.std.specs.Prelude.{ℕ, ◌*◌, ◌<◌, ◌≤◌, ◌≡◌, refl, Bool, true, false, ◌&&◌, cond, List, [], ◌∷◌, ◌++◌, ◌↔◌, length, get_or, drop, eqb}
 use Rattle.std.proofs.Common.{sym, ◌∙◌, ap, subst, arith, length-append}
 use Rattle.std.proofs.Math.Option.{Option, none, some}
-use Rattle.meaning.specs.Refusals.{Refusal, number, Answer, done, refused, ◌then◌, answer_no}
+use Rattle.meaning.specs.Refusals.{number, Answer, done, refused, ◌then◌, answer_no}
 use Rattle.meaning.specs.Trees.{Expression, Forest, Acyclic, nth, Each}
-use Rattle.meaning.specs.Steps.{Kind, Cell, Ref, StepOp, Step, step, exp_cell}
+use Rattle.meaning.specs.Steps.{Cell, Ref, StepOp, Step, step, exp_cell}
 use Rattle.meaning.specs.Emission.{emit}
 use Rattle.meaning.specs.Order.{Marks, Job, Asked, asked, there, ask}
 use Rattle.meaning.specs.Generation.{Block, State, Result, result, Request, make_one, make, plain_result, serve_all}
 use Rattle.meaning.specs.Generation as meaning
-use Rattle.meaning.specs.Holding.{Holding, copy_on, serve_on, serve_all_on, states, serve_all-on}
+use Rattle.meaning.specs.Holding.{copy_on, serve_on, serve_all_on, states, serve_all-on}
 use Rattle.meaning.specs.Conditions.{Stepped, Refused3, Refused5, Refused7, Refused8, FirstRefused}
 use Rattle.meaning.specs.Exactly.{all_3, all_5, all_7, all_8}
 use Rattle.kinds.specs.declared.reference.Reference.{Reference}
 use Rattle.kinds.specs.declared.step.Step as raw
 use Rattle.kinds.specs.Steps.{step_size, steps-length}
-use Rattle.frames.specs.Tables.{first}
 use Rattle.starkinfo_codegen.specs.Encoding.{ref_of, records-length}
 use Rattle.starkinfo_codegen.specs.Roots.{block-enough}
 use Rattle.starkinfo_codegen.specs.Sources.{copy_step}
 use Rattle.requests.specs.Jobs.{each_first}
-use Rattle.builds.specs.Raw.{RawBlock, steps_in, start_of, raw_block_at, raw_blocks, last_destination, copied, is_block, copy_into}
+use Rattle.builds.specs.Raw.{RawBlock, steps_in, start_of, raw_block_at, last_destination, copied, is_block, copy_into}
 use Rattle.builds.specs.RawOf.{raw_of}
 use Rattle.context.specs.declared.layout.Entry.{Entry}
 use Rattle.context.specs.Context.{blocks_in, entry_in, Good}

@@ -1,8 +1,8 @@
 -- A CONTEXT AND ITS LIST AFTER A CALL: the bytes that say so much, and every other byte as it was.
 -- Assumes nothing.
-use Rattle.std.specs.Prelude.{ℕ, zero, suc, ◌+◌, ◌*◌, ◌/◌, ◌%◌, ◌<◌, ◌≤◌, ◌≡◌, refl, Bool, ◌&&◌, cond, List, [], ◌∷◌, ◌++◌, length, get_or, take, drop, leb, ltb}
+use Rattle.std.specs.Prelude.{ℕ, zero, suc, ◌+◌, ◌*◌, ◌/◌, ◌%◌, ◌≤◌, ◌≡◌, refl, Bool, ◌&&◌, cond, List, [], ◌∷◌, ◌++◌, length, get_or, take, drop, leb, ltb}
 use Rattle.std.proofs.Common.{sym, ◌∙◌, ap, arith, take-suc}
-use Rattle.std.proofs.Math.Option.{Option, none}
+use Rattle.std.proofs.Math.Option.{none}
 use Rattle.meaning.specs.Refusals.{Refusal, Answer, done, refused}
 use Rattle.meaning.specs.Order.{Marks}
 use Rattle.kinds.specs.Write.{write}
@@ -11,7 +11,7 @@ use Rattle.frames.specs.Tables.{first}
 use Rattle.frames.specs.Packing.{first-length}
 use Rattle.starkinfo_codegen.specs.Ordering.{cell_of}
 use Rattle.requests.specs.Generating.{number_limit}
-use Rattle.builds.specs.Raw.{RawBlock, cell_in, steps_in, start_of, raw_block_at, raw_blocks, every}
+use Rattle.builds.specs.Raw.{RawBlock, steps_in, start_of, raw_block_at, raw_blocks, every}
 use Rattle.builds.specs.Lists.{every-is}
 use Rattle.context.specs.Context.{blocks_at, marks_at, table_at, cells}
 use Rattle.context.specs.Tables.{counter_bytes, table_bytes}

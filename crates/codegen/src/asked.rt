@@ -11,7 +11,7 @@ pub const NO_KIND: u8 = 0;
 
 const NO_ID: u16 = 0;
 
-#[derive(Drop)]
+#[derive(Clone, Copy)]
 pub struct Wanted {
     pub kind: u8,
     pub id: u16,
