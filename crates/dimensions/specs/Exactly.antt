@@ -1,12 +1,12 @@
 -- EACH ANSWER OF set_code_dimensions EXACTLY WHEN, for all lists and all that is given; and only one outcome fits what it promises.
 -- Assumes nothing.
-use Rattle.std.specs.Prelude.{ℕ, ◌≡◌, refl, Bool, true, false, List, ◌∷◌, ◌↔◌}
+use Rattle.std.specs.Prelude.{ℕ, ◌≡◌, refl, Bool, true, false, List, [], ◌∷◌, ◌↔◌}
 use Rattle.std.proofs.Common.{sym, ◌∙◌, ap, arith}
 use Rattle.std.proofs.Math.Option.{none, some}
 use Rattle.kinds.specs.declared.reference.Reference.{Reference}
 use Rattle.kinds.specs.declared.step.Step.{Step}
 use Rattle.meaning.specs.Refusals.{Refusal, number, Answer, done, refused, answer_no}
-use Rattle.step_dimensions.specs.StepDimensions.{Given, unwritten}
+use Rattle.step_dimensions.specs.StepDimensions.{Given, unwritten, noted}
 use Rattle.dimensions.specs.Dimensions.{passed, passed_lists, good_lists, dimensions}
 use Rattle.dimensions.specs.Answers.{refusal_of, dimensioned_no, DimensionedIs}
 use Rattle.dimensions.specs.Conditions as when
@@ -33,6 +33,7 @@ module _ (g : Given) where
   few_source ts r _ (when.quotient_zero e c) = twelve
 
   few_sources : (ts : List ℕ) (w : Refusal) (rs : List Reference) → SourcesRefused g ts w rs → Few w
+  few_sources ts w [] x' = elim x' [ ]
   few_sources ts w (r ∷ rs) (SourcesRefused.this c) = few_source ts r w c
   few_sources ts w (r ∷ rs) (SourcesRefused.next d e c) = few_sources ts w rs c
 
@@ -42,8 +43,9 @@ module _ (g : Given) where
   few_step ts s _ (when.no_destination e ds z q) = ten
 
   few_steps : (w : Refusal) (ts : List ℕ) (ss : List Step) → StepsRefused g w ts ss → Few w
+  few_steps w ts [] x' = elim x' [ ]
   few_steps w ts (s ∷ ss) (StepsRefused.this c) = few_step ts s w c
-  few_steps w ts (s ∷ ss) (StepsRefused.next s' e c) = few_steps w _ ss c
+  few_steps w ts (s ∷ ss) (StepsRefused.next s' e c) = few_steps w (noted ts s') ss c
 
 module _ (g : Given) (ls : List (List ℕ)) where
   -- the first step of the segment that is refused is refused so

@@ -1,17 +1,17 @@
 -- The dimension of a node's tree, by the node: a leaf that leads nowhere, one that leads to an expression, an operation's children one after another.
 -- Assumes nothing.
-use Prim.Native.Nat.{ℕ, zero, suc, ◌+◌, ◌-◌, ◌*◌, ◌<◌, ◌≤◌, max}
+use Prim.Native.Nat.{ℕ, ◌+◌, ◌-◌, ◌*◌, ◌<◌, ◌≤◌, max}
 use mathlib.Core.Path.{◌≡◌, refl, sym, ◌∙◌, ap, ap₂, subst}
-use mathlib.Core.Bool.{Bool, true, false, cond}
-use mathlib.Core.Option.{Option, none, some, none-ne-some, some-injective}
-use mathlib.Core.List.{List, [], ◌∷◌}
-use mathlib.Core.Logic.{◌⊎◌, inl, inr}
+use mathlib.Core.Bool.{Bool, true, false}
+use mathlib.Core.Option.{none, some, none-ne-some, some-injective}
+use mathlib.Core.List.{List}
+use mathlib.Core.Logic.{inl, inr}
 use native.Mathlib.Omega.{arith}
 use lib.ListN.{length, get_or, set, length-set}
 use lib.Seq.{get_or-set_same, get_or-set_other}
 use lib.Dec.{eqb}
 use borrow.Author.Tests.{eqb-true, eqb-false}
-use Rattle.meaning.specs.Trees.{RowKind, Leaf, Expr, nth, Placed, ◌at◌, leaves, Each, Member}
+use Rattle.meaning.specs.Trees.{RowKind, Leaf, Expr, ◌at◌, leaves, Each, Member}
 use Rattle.frames.specs.Order.{node_limit, expression_limit}
 use Rattle.frames.specs.declared.node.Node.{Node}
 use Rattle.frames.specs.Tables.{count_in, node_in}
@@ -26,9 +26,9 @@ use Rattle.pool.specs.Cycles.{lead_by, lead_in}
 use Rattle.pool.specs.Laws.Members.{each_member, member-each}
 use Rattle.pool.specs.Laws.Tabled.{root-at, expression-count}
 use Rattle.pool.specs.Laws.Trees.{arity, arity-is, leaf-is, tree_is}
-use Rattle.pool.specs.Laws.Leads.{lead_is, no-children, children-lead, leads-map}
+use Rattle.pool.specs.Laws.Leads.{lead_is, no-children, children-lead}
 use Rattle.pool.specs.Laws.Nodes as Nodes
-use Rattle.exp_dims.specs.Dimension.{through, leaf_dim, tree_dim, exp_dim}
+use Rattle.exp_dims.specs.Dimension.{leaf_dim, tree_dim}
 use Rattle.exp_dims.specs.Known.{leaf_dim_in, leaf_dim_by, unknown, Kept, D, Sound, World, TreeAsks, Gives, ExpAsks}
 use Rattle.exp_dims.specs.Laws.{exp-is, grown-one, grown-two, grown-three}
 use Rattle.exp_dims.proofs.Leaves.{leaf-by}

@@ -1,12 +1,10 @@
 -- What the functions ask and give, over tables: a table of bytes holds for each expression its dimension, or 255 where it is not known.
 -- Assumes nothing: these are definitions.
 use Rattle.std.specs.Prelude.{ℕ, ◌<◌, ◌≡◌, cond, List, ◌⊎◌, length, get_or, eqb}
-use Rattle.std.proofs.Math.Option.{some}
 use Rattle.kinds.specs.KindBytes as kind
 use Rattle.kinds.specs.Range.{within}
 use Rattle.frames.specs.Order.{expression_limit}
 use Rattle.frames.specs.Tables.{kind_in, id_in}
-use Rattle.pool.specs.Pool.{Pool}
 use Rattle.pool.specs.Trees.{tree}
 use Rattle.pool.specs.Admission.{Ranked}
 use Rattle.pool.specs.Tabled.{Tables, tabled}

@@ -1,7 +1,7 @@
 -- Laws of dimensions: an expression's dimension is that of its tree, once it has a rank; and a tree's by the class of its node.
 -- Assumes nothing.
-use Rattle.std.specs.Prelude.{ℕ, zero, suc, ◌<◌, max, ◌≡◌, refl, List, [], ◌∷◌, ◌++◌, get_or}
-use Rattle.std.proofs.Common.{sym, ◌∙◌, ap, ap₂, arith}
+use Rattle.std.specs.Prelude.{ℕ, zero, suc, ◌<◌, max, ◌≡◌, refl, List, ◌++◌}
+use Rattle.std.proofs.Common.{ap, arith}
 use Rattle.std.proofs.Math.Option.{Option, none, some}
 use Rattle.std.proofs.Math.ListN.{length}
 use Rattle.meaning.specs.Trees.{RowKind, FlatKind, XKind, Leaf, Expr, nth, Placed, ◌at◌, leaves, Each}

@@ -1,3 +1,5 @@
 // The dimension of an expression: `get_exp_dim`.
+#![tactic(auto)]
+
 pub mod dim;
 pub mod leaf;

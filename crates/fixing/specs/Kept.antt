@@ -1,6 +1,5 @@
 -- WHAT IS FIXED IS WELL FORMED, and as long as it was. Assumes nothing.
-use Rattle.std.specs.Prelude.{ℕ, ◌≡◌, refl, Bool, cond, ◌&&◌, List, length, eqb, leb}
-use Rattle.std.proofs.Common.{sym, ◌∙◌, ap}
+use Rattle.std.specs.Prelude.{ℕ, ◌≡◌, Bool, cond, List, length, eqb, leb}
 use Rattle.std.proofs.Math.Bool.{true, false}
 use Rattle.std.proofs.Math.Option.{Option, none, some}
 use Rattle.kinds.specs.KindBytes as kind
@@ -9,9 +8,9 @@ use Rattle.kinds.specs.Range.{within}
 use Rattle.kinds.specs.declared.reference.Reference.{Reference}
 use Rattle.meaning.specs.Laws.Tests.{and_right}
 use Rattle.fixed_meaning.specs.Fixing.{Map}
-use Rattle.lists.specs.Records.{records_in, good_reference, good_records, good_list}
+use Rattle.lists.specs.Records.{records_in, good_reference, good_list}
 use Rattle.lent_lists.specs.Verdicts.{fine}
-use Rattle.lent_lists.specs.Laws.Kept.{record-kept, records-kept, rewritten-length, good-records}
+use Rattle.lent_lists.specs.Laws.Kept.{records-kept, rewritten-length, good-records}
 use Rattle.fixing.specs.ProverCode.{fix_expression, placed, fix_reference, fix_record, plan_of, rule_for, rule_dim, temporaries, prover_verdict, list_after}
 use Rattle.fixing.specs.Laws.Joined.{list-fixed}
 

@@ -1,6 +1,6 @@
 -- THE RECORDS THAT FIXING LEAVES SAY THE STEPS THAT FIXING GIVES: what fix_prover_code accepts says steps, and its lists after it say those of fix_segment.
 -- Assumes nothing.
-use Rattle.std.specs.Prelude.{ℕ, ◌+◌, ◌%◌, ◌≤◌, Bool, not, cond, ◌&&◌, ◌||◌, length, T, leb, ltb}
+use Rattle.std.specs.Prelude.{ℕ, ◌%◌, ◌≤◌, Bool, not, cond, ◌&&◌, ◌||◌, length, T, leb, ltb}
 use Rattle.std.proofs.Math.Path.{◌≡◌, refl, ap}
 use Rattle.std.proofs.Common.{sym, ◌∙◌, arith}
 use Rattle.std.proofs.Math.Bool.{true, false}
@@ -22,7 +22,7 @@ use Rattle.meaning.specs.Steps.{Kind, Cell, Ref, StepOp, Step, step}
 use Rattle.meaning.specs.Building.{Segment}
 use Rattle.meaning.specs.Laws.Tests.{true-false, and_left, and_right}
 use Rattle.fixed_meaning.specs.Fixing.{fix_segment}
-use Rattle.lent_lists.specs.Verdicts.{Verdict, fine, malformed, not_there, no_rule, full, verdict_no, first_of, only}
+use Rattle.lent_lists.specs.Verdicts.{Verdict, fine, malformed, no_rule, full, verdict_no, first_of, only}
 use Rattle.lent_lists.specs.Laws.Records.{record-used}
 use Rattle.lists.specs.Records.{records_in, counted_in, good_reference, good_record, good_records, good_list}
 use Rattle.lent_lists.specs.Records.{runs, good_used, good_lists}

@@ -1,9 +1,9 @@
 -- From each part of a plan to the next, over plain variables. Assumes nothing.
-use Prim.Native.Nat.{ℕ, suc, ◌+◌, ◌<◌, ◌≤◌}
-use mathlib.Core.Path.{◌≡◌, refl, sym, ◌∙◌, ap, subst}
+use Prim.Native.Nat.{ℕ, ◌+◌, ◌<◌}
+use mathlib.Core.Path.{◌≡◌, sym, ◌∙◌, ap, subst}
 use mathlib.Core.List.{List, []}
 use native.Mathlib.Omega.{arith}
-use lib.ListN.{length, set, replicate}
+use lib.ListN.{set, replicate}
 use Rattle.frames.specs.Order.{expression_limit}
 use Rattle.pool.specs.Pool.{Pool}
 use Rattle.pool.specs.Admission.{Ranked}
@@ -14,13 +14,12 @@ use Rattle.plans.specs.Plan.{Is, number_limit, cm1, c_exp, pu_count, im_count, p
 use Rattle.plans.specs.Columns.{record_limit}
 use Rattle.plans.specs.Counting.{Tells, MarkAsks, known}
 use Rattle.plans.specs.Counts.{none_told}
-use Rattle.map_records.specs.Mapping.{Mapping, pol, cm1s, lookups, products, intermediates, quotient_dim, quotients, mapped}
-use Rattle.map_records.specs.Tables.{Holds, State, Planned, ProductsLow, Ready, DimAsks, Begun, ImAsks, QuotientAsks}
+use Rattle.map_records.specs.Mapping.{pol, cm1s, lookups, products, intermediates, quotient_dim, quotients, mapped}
+use Rattle.map_records.specs.Tables.{Holds, State, Planned, ProductsLow, DimAsks, Begun, ImAsks, QuotientAsks}
 use Rattle.map_records.specs.All.{AllAsks, Mapped}
 use Rattle.map_records.specs.Held.{holds-pol}
 use Rattle.plans.specs.Passed.{names-there}
-use Rattle.map_records.specs.Sizes.{size, cm1s-columns, quotients-fit}
-use Rattle.map_records.specs.declared.all.Records.{Records}
+use Rattle.map_records.specs.Sizes.{cm1s-columns, quotients-fit}
 
 module _ {b : List ℕ} {t : Tables} {rank : ℕ → ℕ} {table ss ds cs : List ℕ} (a : AllAsks b t rank table ss ds cs) where
   abbrev p : Pool

@@ -1,17 +1,17 @@
 -- One temporary column, or none. Assumes nothing.
-use Prim.Native.Nat.{ℕ, zero, suc, ◌+◌, ◌<◌, ◌≤◌}
-use mathlib.Core.Path.{◌≡◌, refl, sym, ◌∙◌, ap, subst}
-use mathlib.Core.Bool.{Bool, true, false, ◌||◌, cond}
+use Prim.Native.Nat.{ℕ, ◌+◌, ◌<◌}
+use mathlib.Core.Path.{◌≡◌, refl, sym, ap, subst}
+use mathlib.Core.Bool.{Bool, true, false, cond}
 use mathlib.Core.List.{List, [], ◌∷◌, ◌++◌}
 use native.Mathlib.Omega.{arith}
 use lib.ListN.{length, set}
 use Rattle.frames.specs.Order.{expression_limit}
-use Rattle.plans.specs.Columns.{record_limit, among, is_im, adding}
+use Rattle.plans.specs.Columns.{record_limit, adding}
 use Rattle.plans.specs.Counting.{Tells, Asked, Counted, known}
 use Rattle.plans.specs.Counts.{counted-one}
 use Rattle.map_records.specs.Mapping.{Mapping, pol, grown, column}
 use Rattle.map_records.specs.Tables.{Holds, State, ColumnAsks}
-use Rattle.map_records.specs.Sizes.{size, snoc-size, column-columns, column-size}
+use Rattle.map_records.specs.Sizes.{size, snoc-size, column-columns}
 use Rattle.map_records.specs.Held.{holds-pol}
 
 -- by what is known

@@ -1,14 +1,12 @@
 -- From a fresh table of what is known to the dimension of an expression. Assumes nothing.
-use Prim.Native.Nat.{ℕ, suc, ◌<◌, max}
-use mathlib.Core.Path.{◌≡◌, ap₂, ◌∙◌}
+use Prim.Native.Nat.{ℕ}
 use mathlib.Core.List.{List}
-use mathlib.Core.Logic.{◌⊎◌, inl, inr}
+use mathlib.Core.Logic.{inl}
 use native.Mathlib.Omega.{arith}
-use lib.ListN.{length, get_or, replicate, length-replicate, get_or-replicate}
+use lib.ListN.{replicate, length-replicate, get_or-replicate}
 use Rattle.frames.specs.Order.{expression_limit}
 use Rattle.pool.specs.Tabled.{Tables}
-use Rattle.pool.specs.Ranking.{Tabling}
-use Rattle.exp_dims.specs.Known.{unknown, Sound, World, ExpAsks, Gives, D}
+use Rattle.exp_dims.specs.Known.{unknown, World, ExpAsks, Gives}
 use Rattle.map_records.specs.Tables.{DimAsks}
 
 module _ {t : Tables} {table : List ℕ} {rank : ℕ → ℕ} {e : ℕ} (a : DimAsks t table rank e) (dims : List ℕ) where

@@ -1,20 +1,20 @@
 -- One pu and one grand product: the records of their columns, then their temporary columns. Assumes nothing.
-use Prim.Native.Nat.{ℕ, zero, suc, ◌+◌, ◌*◌, ◌<◌, ◌≤◌, max}
-use mathlib.Core.Path.{◌≡◌, refl, sym, ◌∙◌, ap, ap₂, subst}
-use mathlib.Core.List.{List, [], ◌∷◌, ◌++◌}
+use Prim.Native.Nat.{ℕ, ◌+◌, ◌<◌, ◌≤◌, max}
+use mathlib.Core.Path.{◌≡◌, refl, sym, ◌∙◌, ap, subst}
+use mathlib.Core.List.{List}
 use native.Mathlib.Omega.{arith}
 use native.Mathlib.Numerals.{add-one}
-use lib.ListN.{length, set}
+use lib.ListN.{set}
 use Rattle.frames.specs.Order.{expression_limit}
 use Rattle.pool.specs.Pool.{Pool}
 use Rattle.pool.specs.Admission.{Ranked}
 use Rattle.pool.specs.Ranking.{Starts}
 use Rattle.pool.specs.Tabled.{Tables, tabled}
 use Rattle.exp_dims.specs.Dimension.{exp_dim}
-use Rattle.plans.specs.Plan.{Is, number_limit, cm1, pu_count, product_count, f_of, t_of, num_of, den_of, q2exp}
+use Rattle.plans.specs.Plan.{Is, number_limit, pu_count, product_count, f_of, t_of, num_of, den_of}
 use Rattle.plans.specs.Columns.{record_limit}
 use Rattle.map_records.specs.Mapping.{Mapping, pair, twin, column, h_at, z_at, lookup_dim, lookup, lookups, products}
-use Rattle.map_records.specs.Tables.{Holds, State, Planned, ProductsLow, Ready, DimAsks, Begun, ColumnAsks}
+use Rattle.map_records.specs.Tables.{Holds, State, Planned, ProductsLow, DimAsks, Begun, ColumnAsks}
 use Rattle.plans.specs.Passed.{names-there}
 use Rattle.map_records.specs.Sizes.{size, pair_size, column-size, adding-grows, lookups-fit, products-fit}
 use Rattle.map_records.proofs.Parts.{pair-next}

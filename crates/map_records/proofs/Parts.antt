@@ -1,19 +1,19 @@
 -- One step of each part of a plan, over plain variables. Assumes nothing.
-use Prim.Native.Nat.{ℕ, zero, suc, ◌+◌, ◌*◌, ◌<◌, ◌≤◌}
-use mathlib.Core.Path.{◌≡◌, refl, sym, ◌∙◌, ap, ap₂, subst}
-use mathlib.Core.List.{List, [], ◌∷◌, ◌++◌}
+use Prim.Native.Nat.{ℕ, ◌+◌, ◌*◌, ◌<◌}
+use mathlib.Core.Path.{◌≡◌, sym, ◌∙◌, ap, subst}
+use mathlib.Core.List.{List}
 use native.Mathlib.Omega.{arith}
 use native.Mathlib.Numerals.{add-one}
-use lib.ListN.{length, set}
+use lib.ListN.{set}
 use Rattle.pool.specs.Pool.{Pool}
 use Rattle.pool.specs.Tabled.{Tables, tabled}
 use Rattle.pool.specs.Admission.{Ranked}
 use Rattle.pool.specs.Ranking.{Starts}
 use Rattle.exp_dims.specs.Dimension.{exp_dim}
-use Rattle.plans.specs.Plan.{cm1, cm2, cm3, q_deg, im_count, im_at, im_of, q2exp}
+use Rattle.plans.specs.Plan.{cm1, cm2, cm3, q_deg, im_count, im_of}
 use Rattle.plans.specs.Columns.{record_limit}
 use Rattle.map_records.specs.Mapping.{Mapping, pair, twin, fresh, cm1s, z_at, dim_in, intermediates, quotient_dim, quotients}
-use Rattle.map_records.specs.Tables.{Holds, Planned, Ready, DimAsks, ImAsks, QuotientAsks}
+use Rattle.map_records.specs.Tables.{Holds, Planned, DimAsks, ImAsks, QuotientAsks}
 use Rattle.map_records.specs.Held.{holds-pair}
 use Rattle.plans.specs.Passed.{names-there}
 use Rattle.map_records.specs.Sizes.{size, pair_size, intermediates-fit, quotients-fit}

@@ -1,5 +1,5 @@
 -- Laws of a mapping in tables: one record more, the two of a cm, and a dimension of a cm. Assumes nothing.
-use Rattle.std.specs.Prelude.{ℕ, suc, ◌+◌, ◌<◌, ◌≤◌, ◌≡◌, refl, List, [], ◌∷◌, ◌++◌, length, set, take}
+use Rattle.std.specs.Prelude.{ℕ, suc, ◌+◌, ◌<◌, ◌≡◌, List, [], ◌∷◌, ◌++◌, length, set, take}
 use Rattle.std.proofs.Common.{sym, ◌∙◌, ap, subst, arith, add-one, length-set, take-suc-set}
 use Rattle.plans.specs.Columns.{record_limit}
 use Rattle.map_records.specs.Mapping.{Mapping, pol, pair, twin}

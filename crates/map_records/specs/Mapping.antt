@@ -4,11 +4,11 @@
 -- cm_dims are filled as the Rust fills them, while it fills them: an expression's dimension is asked for with those that stand at the time, and those of the
 -- intermediates are written over those of the grand products, from n_cm1 + n_cm2 on.
 -- Assumes nothing: these are definitions.
-use Rattle.std.specs.Prelude.{ℕ, zero, suc, ◌+◌, ◌*◌, max, Bool, true, false, ◌||◌, cond, List, [], ◌∷◌, ◌++◌, length, set, replicate, eqb}
+use Rattle.std.specs.Prelude.{ℕ, zero, suc, ◌+◌, ◌*◌, max, Bool, false, ◌||◌, cond, List, [], ◌∷◌, ◌++◌, set, replicate, eqb}
 use Rattle.pool.specs.Pool.{Pool}
 use Rattle.exp_dims.specs.Dimension.{exp_dim}
 use Rattle.plans.specs.Plan.{cm1, cm2, cm3, q_deg, c_exp, pu_count, im_count, product_count, f_of, t_of, num_of, den_of, im_of, q2exp}
-use Rattle.plans.specs.Columns.{among, is_im, adding}
+use Rattle.plans.specs.Columns.{among, is_im}
 
 -- the sections of a cm in the domain "n", in document 01's order; five further on is its section in "2ns"
 abbrev pub cm1_n : ℕ

@@ -1,9 +1,9 @@
 -- How many records there are after each part of a plan, and that no part passes the count of the whole.
 -- Assumes nothing.
-use Prim.Native.Nat.{ℕ, zero, suc, ◌+◌, ◌*◌, ◌<◌, ◌≤◌}
+use Prim.Native.Nat.{ℕ, zero, suc, ◌+◌, ◌*◌, ◌≤◌}
 use Rattle.std.specs.Prelude.{◌≡◌, Bool, ◌||◌}
 use Rattle.std.proofs.Math.Path.{refl, ap}
-use Rattle.std.proofs.Common.{sym, ◌∙◌, subst, length-append}
+use Rattle.std.proofs.Common.{◌∙◌, length-append}
 use Rattle.std.proofs.Math.Bool.{true, false, cond}
 use mathlib.Core.List.{List, [], ◌∷◌, ◌++◌}
 use native.Mathlib.Omega.{arith}
@@ -13,7 +13,7 @@ use Rattle.pool.specs.Pool.{Pool}
 use Rattle.plans.specs.Plan.{cm1, cm2, cm3, q_deg, pu_count, im_count, product_count, f_of, t_of, num_of, den_of, im_of}
 use Rattle.plans.specs.Columns as plan
 use Rattle.plans.specs.Columns.{among, is_im, adding, record_limit, pair_records, record_count}
-use Rattle.map_records.specs.Mapping.{Mapping, pol, pair, column, fresh, cm1s, lookup_dim, lookup, lookups, z_at, dim_in, products, intermediates, quotient_dim, quotients, mapped}
+use Rattle.map_records.specs.Mapping.{Mapping, pol, pair, column, cm1s, lookup_dim, lookup, lookups, z_at, dim_in, products, intermediates, quotient_dim, quotients, mapped}
 
 -- as many sections as dimensions
 abbrev pub Even : Mapping → Type 0

@@ -1,4 +1,6 @@
 // The records of a plan: `map`, part by part.
+#![tactic(auto)]
+
 pub mod all;
 pub mod column;
 pub mod dim;

@@ -1,16 +1,15 @@
 -- Tests one after the other, as a conjunction: of a record's size, of its bits and counts, of what it names.
 -- Assumes nothing.
 use Prim.Native.Nat.{ℕ, ◌+◌, ◌*◌, ◌<◌, ◌≤◌}
-use mathlib.Core.Path.{◌≡◌, refl, sym, ◌∙◌, ap}
+use mathlib.Core.Path.{◌≡◌, refl, sym, ◌∙◌}
 use mathlib.Core.Bool.{Bool, true, false, not, ◌&&◌}
 use mathlib.Core.List.{List}
 use native.Mathlib.Omega.{arith}
-use lib.ListN.{length, get_or}
+use lib.ListN.{length}
 use lib.Dec.{eqb, leb}
 use borrow.Author.Tests.{ne_eqb, eq-eqb, le-leb, lt-leb, not-true, not-false}
 use Rattle.plans.specs.Plan.{Is, number_limit, n_bits, n_bits_ext, cm2, cm3, cm4, q_deg, pu_count, im_count, q2exp_count, product_count, head_size, q2exp_at, end_at, ascending, is_plan}
 use Rattle.plans.specs.Agreement.{bits_limit, blowup_limit, bits_good, counts_agree}
-use Rattle.plans.specs.Every.{and-false}
 
 -- ---- a conjunction
 

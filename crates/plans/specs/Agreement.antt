@@ -1,6 +1,6 @@
 -- WHAT A PLAN NAMES IS THERE (3), its bits are in range (16), and its counts agree (11).
 -- Assumes nothing: these are definitions.
-use Rattle.std.specs.Prelude.{ℕ, ◌+◌, ◌*◌, Bool, true, ◌&&◌, cond, List, get_or, eqb, leb, ltb}
+use Rattle.std.specs.Prelude.{ℕ, ◌+◌, ◌*◌, Bool, true, ◌&&◌, cond, List, eqb, leb, ltb}
 use Rattle.kinds.specs.KindBytes as kind
 use Rattle.frames.specs.Tables.{kind_in, id_in}
 use Rattle.plans.specs.Plan.{every, n_bits, n_bits_ext, cm1, cm2, cm3, cm4, q_deg, c_exp, pu_count, im_count, q2exp_count, product_count, q2exp_at, number_at, f_of, t_of, num_of, den_of, im_of}

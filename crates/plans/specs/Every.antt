@@ -1,6 +1,6 @@
 -- Laws of a test of every number below one. Assumes nothing.
 use Rattle.std.specs.Prelude.{ℕ, zero, suc, ◌+◌, ◌<◌, ◌≤◌, ◌≡◌, refl, Bool, true, false, ◌&&◌, ◌⊎◌, ltb}
-use Rattle.std.proofs.Common.{sym, ◌∙◌, ap, subst, inl, inr, arith, eq-or-lt_of_le, le_of_suc-le-suc, not-suc-le-zero, add-one, lt-ltb, le-ltb}
+use Rattle.std.proofs.Common.{sym, ap, subst, inl, inr, arith, eq-or-lt_of_le, le_of_suc-le-suc, not-suc-le-zero, add-one, lt-ltb, le-ltb}
 use Rattle.plans.specs.Plan.{every}
 
 pub and-false : (a : Bool) → (a && false) ≡ false

@@ -1,9 +1,8 @@
 -- The expressions of q numbers stand at the end of a plan: its bytes from there on are the table that admission and dimensions read. Assumes nothing.
-use Rattle.std.specs.Prelude.{ℕ, ◌+◌, ◌-◌, ◌*◌, ◌<◌, ◌≡◌, List, length, get_or, drop}
+use Rattle.std.specs.Prelude.{ℕ, ◌+◌, ◌*◌, ◌<◌, ◌≡◌, List, length, get_or, drop}
 use Rattle.std.proofs.Math.Path.{sym}
-use Rattle.std.proofs.Common.{◌∙◌, ap, ap₂, arith, length-drop, get_or-drop, ext_get_or}
+use Rattle.std.proofs.Common.{◌∙◌, ap, arith, length-drop, get_or-drop, ext_get_or}
 use Rattle.kinds.specs.BigEndian.{u16_at}
-use Rattle.frames.specs.Tables.{first}
 use Rattle.frames.specs.Packing.{first-length, first-at}
 use Rattle.pool.specs.Entries.{entries_in, entries-few, entries-all, entry_at}
 use Rattle.plans.specs.Plan.{number_at, Whole, q2exp_at, q2exp_count, q2exp}

@@ -1,6 +1,6 @@
 -- THE DIMENSIONS OF A STEP: document 01, "Sections, dimensions, fixing", over the record of a step.
 -- Assumes nothing: these are definitions.
-use Rattle.std.specs.Prelude.{ℕ, zero, suc, max, Bool, cond, ◌||◌, List, [], ◌∷◌, length, get_or, set, replicate, eqb, ltb}
+use Rattle.std.specs.Prelude.{ℕ, zero, suc, max, Bool, cond, List, [], ◌∷◌, length, get_or, set, replicate, eqb, ltb}
 use Rattle.std.proofs.Math.Option.{none}
 use Rattle.kinds.specs.KindBytes as kind
 use Rattle.kinds.specs.StepOps.{sources_needed}

@@ -132,6 +132,7 @@ module _ (g : Given) (ts : List ℕ) where
 
   pub sources-refuse : (w : Refusal) (rs : List Reference) → SourcesRefused g ts w rs → source_dims g ts rs ≡ refused w none
   unfolding source_dims
+  sources-refuse w [] x' = elim x' [ ]
   sources-refuse w (r ∷ rs) (SourcesRefused.this c) = rw (source-refuses g ts r w c)
   sources-refuse w (r ∷ rs) (SourcesRefused.next d e c) = rw (e, sources-refuse w rs c)
 
@@ -173,6 +174,7 @@ module _ (g : Given) where
 
   pub steps-refuse : (w : Refusal) (ts : List ℕ) (ss : List Step) → StepsRefused g w ts ss → passed g ts ss ≡ refused w none
   unfolding passed
+  steps-refuse w ts [] x' = elim x' [ ]
   steps-refuse w ts (s ∷ ss) (StepsRefused.this c) = rw (step-refuses g ts s w c)
   steps-refuse w ts (s ∷ ss) (StepsRefused.next s' e c) = rw (e, steps-refuse w (noted ts s') ss c)
 

@@ -4,7 +4,6 @@ use Prim.Native.Nat.{ℕ, zero, suc, max, ◌+◌, ◌*◌, ◌≤◌, ◌<◌}
 use Rattle.std.specs.Prelude.{◌≡◌, refl, Bool, true, false, List, [], ◌∷◌, ◌⊎◌, length, get_or, set, eqb}
 use Rattle.std.proofs.Common.{sym, ◌∙◌, inl, inr, eq-or-lt_of_le, add-one}
 use Rattle.std.proofs.Math.Path.{ap}
-use Rattle.std.proofs.Math.Option.{none}
 use native.Mathlib.Omega.{arith}
 use borrow.Author.Tests.{eq-eqb, ne_eqb, lt-ltb, le-ltb, eqb-true}
 use Rattle.kinds.specs.KindBytes as kind
@@ -14,7 +13,7 @@ use Rattle.kinds.specs.Steps.{step_at}
 use Rattle.kinds.specs.StepOps.{sources_needed}
 use Rattle.kinds.specs.declared.reference.Reference.{Reference}
 use Rattle.kinds.specs.declared.step.Step.{Step}
-use Rattle.meaning.specs.Refusals.{Refusal, Answer, done, refused}
+use Rattle.meaning.specs.Refusals.{Answer, done, refused}
 use Rattle.step_dimensions.specs.Rules.{is_destination}
 use Rattle.step_dimensions.specs.StepDimensions.{Given, positive, written, through, source_dim, source_dims, largest, sized, sized_step, step_with, noted}
 use Rattle.step_dimensions.specs.Known.{dim_of, noted_at, known_dim, known_at, most_of, AllKnown, MostIs, Sizes}

@@ -1,12 +1,12 @@
 -- A step's record with its dimensions written one by one: it is the record of the step with its dimensions.
 -- Assumes nothing.
-use Prim.Native.Nat.{ℕ, zero, suc, max, ◌+◌, ◌*◌, ◌≤◌, ◌<◌}
-use Rattle.std.specs.Prelude.{◌≡◌, Bool, true, false, cond, List, [], ◌∷◌, ◌++◌, length, get_or, ltb}
+use Prim.Native.Nat.{ℕ, zero, suc, max, ◌+◌, ◌*◌, ◌≤◌}
+use Rattle.std.specs.Prelude.{◌≡◌, Bool, true, false, cond, List, [], ◌∷◌, ◌++◌, ltb}
 use Rattle.std.proofs.Math.Path.{refl, sym, ap}
 use Rattle.std.proofs.Common.{◌∙◌, inl, inr, add-one, arith}
 use Rattle.std.proofs.Math.Option.{Option, none}
 use Rattle.kinds.specs.Write.{write}
-use Rattle.kinds.specs.BigEndian.{u16_at, u16_bytes, u16-sized}
+use Rattle.kinds.specs.BigEndian.{u16_bytes, u16-sized}
 use Rattle.kinds.specs.KindLaws.{sources-small}
 use Rattle.kinds.specs.References.{ref_at, ref_bytes, ref-kept}
 use Rattle.kinds.specs.Steps.{step_at, head_bytes, step_bytes, step-sized}
@@ -16,10 +16,10 @@ use Rattle.kinds.specs.declared.step.Step.{Step}
 use Rattle.meaning.specs.Refusals.{Refusal, Answer, done, refused, ◌then◌}
 use Rattle.lists.specs.Parts.{Bytes, write-over, replace, step-there}
 use Rattle.step_dimensions.specs.Rules.{is_destination}
-use Rattle.step_dimensions.specs.StepDimensions.{Given, source_dim, source_dims, largest, sized, sized_step, met, nothing, step_with}
+use Rattle.step_dimensions.specs.StepDimensions.{Given, source_dim, source_dims, largest, sized, sized_step, met, step_with}
 use Rattle.step_dimensions.specs.Laws.Steps.{nothing-ruled}
 use Rattle.step_dimensions.specs.Laws.Known.{most-one, most-two, most-three, noted-at}
-use Rattle.step_dimensions.specs.Known.{dim_of, noted_at, known_dim, put_dims, most_put, DimsWritten, WritesDims}
+use Rattle.step_dimensions.specs.Known.{dim_of, noted_at, known_dim, put_dims, most_put, WritesDims}
 
 -- ---- a record with one dimension more
 

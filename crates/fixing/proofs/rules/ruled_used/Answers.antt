@@ -1,0 +1,11 @@
+-- `fixing::rules::ruled_used` meets its contract.
+-- Assumes nothing.
+use Rattle.kinds.specs.References.{ref_at}
+use Rattle.lent_lists.specs.Laws.Walks.{used-ruled, unused-ruled}
+use Rattle.fixing.proofs.rules.ruled_used.Goals as goal
+
+pub returns-then-used : goal.returns-then-used
+returns-then-used c = used-ruled _ _ (ref_at c.args.list.now c.args.at) _ c.if-used.true c.ruled_reference.ensures
+
+pub returns : goal.returns
+returns c = unused-ruled _ _ (ref_at c.args.list.now c.args.at) c.if-used.false
