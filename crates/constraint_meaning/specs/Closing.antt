@@ -1,21 +1,21 @@
 -- THE LAST STEP OF STEP42NS: q is the constraint's cell times Zi.
 -- Assumes nothing.
-use Rattle.std.specs.Prelude.{ℕ, zero, suc, ◌<◌, ◌≡◌, refl, Bool, true, false, ◌&&◌, ◌||◌, cond, List, [], ◌∷◌, ◌++◌, length}
+use Rattle.std.specs.Prelude.{ℕ, zero, suc, ◌<◌, ◌≡◌, refl, false, cond, List, [], ◌∷◌, ◌++◌, length}
 use Rattle.std.proofs.Common.{sym, ◌∙◌, ap, subst, append_assoc, append-nil, arith, ne_eqb}
-use Rattle.std.proofs.Math.Option.{Option, none, some}
-use Rattle.meaning.specs.Refusals.{Answer, done, ◌then◌}
+use Rattle.std.proofs.Math.Option.{some}
+use Rattle.meaning.specs.Refusals.{done}
 use Rattle.meaning.specs.Trees.{Expr, Expression, Forest, nth, leaves, Each}
 use Rattle.meaning.specs.Steps.{Ref, StepOp, Step, step, exp_cell}
-use Rattle.meaning.specs.Emission.{Own, Emitted, emit, root_step, block_steps}
-use Rattle.meaning.specs.Order.{Marks, Job, Asked, asked, there, own, ask_leaves, fresh, ask_below, ask}
+use Rattle.meaning.specs.Emission.{Own, emit, root_step}
+use Rattle.meaning.specs.Order.{Marks, Job, Asked, there, own, ask_leaves, fresh, ask_below, ask}
 use Rattle.meaning.specs.Generation.{Block, State, make_one, make, last_destination, adding, block_of, generate, serve}
 use Rattle.meaning.specs.Building.{every}
-use Rattle.meaning.specs.Laws.Tests.{true-false, not-true, then-done, done-same}
+use Rattle.meaning.specs.Laws.Tests.{then-done, done-same}
 use Rattle.meaning.specs.Laws.Requests.{every_append}
 use Rattle.search_meaning.specs.Search.{member}
 use Rattle.constraint_meaning.specs.Tree.{extended}
-use Rattle.constraint_meaning.specs.Constraint.{Built, built_from, plain_request, marked, quotient_ref, zi_ref, product, closed, close_last, closing, step42ns}
-use Rattle.constraint_meaning.specs.Ranks.{unflagged, nth-constraint, length-extended}
+use Rattle.constraint_meaning.specs.Constraint.{Built, plain_request, marked, quotient_ref, zi_ref, product, closed, close_last, closing, step42ns}
+use Rattle.constraint_meaning.specs.Ranks.{unflagged, nth-constraint}
 
 -- ── lists ────────────────────────────────────────────────────────────────────
 last_snoc : (xs : List Step) (x : Step) → last_destination (xs ++ (x ∷ [])) ≡ some x.destination

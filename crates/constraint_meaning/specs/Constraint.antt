@@ -4,9 +4,8 @@
 use Rattle.std.specs.Prelude.{ℕ, zero, suc, ◌+◌, ◌-◌, Bool, false, ◌&&◌, ◌||◌, cond, List, [], ◌∷◌, ◌++◌, ltb, leb, length}
 use Rattle.std.proofs.Math.Option.{Option, none, some}
 use Rattle.meaning.specs.Refusals.{Refusal, Answer, done, refused, ◌then◌}
-use Rattle.meaning.specs.Trees.{RowKind, Expr, Forest}
+use Rattle.meaning.specs.Trees.{RowKind, Forest}
 use Rattle.meaning.specs.Steps.{BareKind, Kind, Cell, Ref, StepOp, Step, step}
-use Rattle.meaning.specs.Order.{Marks}
 use Rattle.meaning.specs.Generation.{Block, State, Request, last_destination, serve, serve_all}
 use Rattle.meaning.specs.Building.{Segment, segment, after_build}
 use Rattle.search_meaning.specs.Search.{member, Choice, search}

@@ -1,12 +1,11 @@
 -- THE REFUSALS OF THE CONSTRAINT, EACH EXACTLY WHEN: the search's; 9 where the pool with the constraint or a column passes its limit; 11 where the counts disagree;
 -- 5 where a member, or else the constraint, reads a row that is not there; and no other number. In an acyclic forest, in contexts whose blocks have steps.
 -- Assumes nothing.
-use Rattle.std.specs.Prelude.{ℕ, zero, suc, ◌+◌, ◌<◌, ◌≤◌, ◌≡◌, refl, Bool, true, false, cond, List, [], ◌∷◌, ◌++◌, ◌⊎◌, ◌↔◌, length, leb}
-use Rattle.std.proofs.Common.{sym, ◌∙◌, ap, subst, inl, inr, arith, leb-true, leb-false, le-leb}
-use Rattle.std.proofs.Math.Option.{Option, none, none-ne-some}
-use Rattle.std.proofs.lemmas.Bool.{lt-leb}
-use Rattle.meaning.specs.Refusals.{Refusal, number, Answer, done, refused, answer_no, ◌then◌}
-use Rattle.meaning.specs.Trees.{Expression, Forest, Acyclic, Each}
+use Rattle.std.specs.Prelude.{ℕ, suc, ◌+◌, ◌<◌, ◌≤◌, ◌≡◌, refl, Bool, true, false, List, [], ◌∷◌, ◌⊎◌, ◌↔◌, length, leb}
+use Rattle.std.proofs.Common.{◌∙◌, ap, subst, inl, inr, arith, leb-true, leb-false, le-leb}
+use Rattle.std.proofs.Math.Option.{Option, none-ne-some}
+use Rattle.meaning.specs.Refusals.{Refusal, Answer, done, refused, answer_no, ◌then◌}
+use Rattle.meaning.specs.Trees.{Forest, Acyclic, Each}
 use Rattle.meaning.specs.Generation.{State, Request, serve, serve_all}
 use Rattle.meaning.specs.Demand3.{NoResult}
 use Rattle.meaning.specs.Conditions.{Stepped, AsksResult, Refused3, Refused5, FirstRefused}

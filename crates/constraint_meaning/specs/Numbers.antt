@@ -1,7 +1,7 @@
 -- Numbering anew changes nothing but the numbers of nodes; how many nodes the constraint adds; and the search is asked about its identities.
 -- Assumes nothing.
 use Rattle.std.specs.Prelude.{ℕ, suc, ◌+◌, ◌*◌, ◌≡◌, refl, List, [], ◌∷◌, length}
-use Rattle.std.proofs.Common.{sym, ◌∙◌, ap, arith}
+use Rattle.std.proofs.Common.{◌∙◌, ap, arith}
 use Rattle.std.proofs.Math.Option.{Option, none, some}
 use Rattle.meaning.specs.Trees.{Expr, Expression, Forest, nth}
 use Rattle.search_meaning.specs.Search.{identity_leaf, folded, fold_more}

@@ -1,6 +1,6 @@
 -- STEP42NS COMPUTES THE CONSTRAINT: after any list that leaves in the cell of each member its value at each row, its steps run and leave in the constraint's cell the constraint's value.
 -- Assumes nothing.
-use Rattle.std.specs.Prelude.{ℕ, ◌<◌, ◌≡◌, refl, true, false, ◌||◌, ◌&&◌, List, ◌++◌, length}
+use Rattle.std.specs.Prelude.{ℕ, ◌<◌, ◌≡◌, refl, false, List, ◌++◌, length}
 use Rattle.std.proofs.Common.{sym, ◌∙◌, ap, subst, append_assoc}
 use Rattle.std.proofs.Math.Option.{some}
 use Rattle.meaning.specs.Refusals.{done}

@@ -1,9 +1,9 @@
 -- WHAT THE CONSTRAINT IS WORTH: from the first identity on, each identity's value and each intermediate's difference from its column is added to vc times what was there.
 -- Assumes nothing.
-use Rattle.std.specs.Prelude.{ℕ, suc, ◌+◌, ◌≡◌, refl, List, [], ◌∷◌, ◌++◌, length}
-use Rattle.std.proofs.Common.{sym, ◌∙◌, ap, subst, arith}
-use Rattle.std.proofs.Math.Option.{Option, none, some}
-use Rattle.meaning.specs.Trees.{RowKind, FlatKind, Op, Leaf, Expr, Expression, Forest, nth}
+use Rattle.std.specs.Prelude.{ℕ, ◌+◌, ◌≡◌, refl, List, [], ◌∷◌, length}
+use Rattle.std.proofs.Common.{subst, arith}
+use Rattle.std.proofs.Math.Option.{some}
+use Rattle.meaning.specs.Trees.{RowKind, FlatKind, Leaf, Expr, Forest, nth}
 use Rattle.meaning.specs.Values.{Algebra, Given, Has, Value}
 use Rattle.search_meaning.specs.Search.{identity_leaf}
 use Rattle.constraint_meaning.specs.Tree.{Numbered, number_from, plus, Intermediate, minus_column, plus_member, plus_identities, plus_members, constraint_tree, extended}

@@ -1,10 +1,9 @@
 -- What joins an identity or a member, node by node. Over plain variables.
 -- Assumes nothing.
-use Prim.Native.Nat.{ℕ, zero, suc, ◌+◌, ◌-◌, ◌*◌, ◌≤◌, ◌<◌}
-use mathlib.Core.Path.{◌≡◌, refl, sym, ◌∙◌, ap, subst}
-use mathlib.Core.List.{List, [], ◌∷◌, ◌++◌, append_assoc}
+use Prim.Native.Nat.{ℕ, ◌+◌, ◌-◌, ◌≤◌, ◌<◌}
+use mathlib.Core.Path.{◌≡◌, sym, ◌∙◌, ap, subst}
+use mathlib.Core.List.{List, [], ◌∷◌}
 use native.Mathlib.Omega.{arith}
-use lib.ListN.{length}
 use Rattle.kinds.specs.KindBytes as kind
 use Rattle.frames.specs.Order.{node_limit}
 use Rattle.frames.specs.declared.node.Node.{Node}
@@ -15,8 +14,8 @@ use Rattle.pool.specs.Tabled.{tabled}
 use Rattle.pool.specs.Ranking.{Tabling}
 use Rattle.constraint_meaning.specs.Numbers.{size}
 use Rattle.constraint_pool.specs.Nodes.{leaf_node, pair_node, last, copied, scaled, identity_nodes, member_nodes}
-use Rattle.constraint_pool.specs.Asked.{Appends, copied_at, CopyAsks, ScaleAsks, IdentityAsks, MemberAsks}
-use Rattle.constraint_pool.specs.Copies.{size-some, copied-length, appends_next, pool-kept}
+use Rattle.constraint_pool.specs.Asked.{Appends, copied_at, CopyAsks, ScaleAsks, MemberAsks}
+use Rattle.constraint_pool.specs.Copies.{copied-length, appends_next, pool-kept}
 
 -- one node of which an equation is known
 pub appends_is : {w l w' l' : List ℕ} {n r : ℕ} {x y : Node} → x ≡ y → Appends w l n (x ∷ []) w' l' r → Appends w l n (y ∷ []) w' l' r

@@ -1,18 +1,18 @@
 -- Identities and members added one after the other, and all of the constraint. Over plain variables.
 -- Assumes nothing.
-use Prim.Native.Nat.{ℕ, zero, suc, ◌+◌, ◌-◌, ◌*◌, ◌≤◌, ◌<◌}
-use mathlib.Core.Path.{◌≡◌, refl, sym, ◌∙◌, ap, subst}
-use mathlib.Core.List.{List, [], ◌∷◌, ◌++◌, append_assoc}
+use Prim.Native.Nat.{ℕ, ◌+◌, ◌-◌, ◌*◌, ◌≤◌, ◌<◌}
+use mathlib.Core.Path.{◌≡◌, sym, ◌∙◌, ap, subst}
+use mathlib.Core.List.{List, [], ◌∷◌, ◌++◌}
 use native.Mathlib.Omega.{arith}
 use native.Mathlib.Numerals.{add-one}
 use lib.ListN.{length, get_or, take, drop, set, length-take, length-append, length-drop, take-append-drop}
-use lib.Seq.{take-suc, take_all, split_at, get_or-drop}
+use lib.Seq.{take-suc, take_all, get_or-drop}
 use Rattle.kinds.specs.KindBytes as kind
 use Rattle.frames.specs.Order.{node_limit, expression_limit}
 use Rattle.frames.specs.Tables.{expression_word}
 use Rattle.frames.specs.declared.rest.Expression.{Expression}
 use Rattle.pool.specs.Words.{root_in}
-use Rattle.pool.specs.Pool.{Pool, node, root_of}
+use Rattle.pool.specs.Pool.{Pool, node}
 use Rattle.pool.specs.Trees.{tree}
 use Rattle.pool.specs.Shaped.{Shaped}
 use Rattle.pool.specs.Tabled.{tabled}
@@ -24,7 +24,7 @@ use Rattle.constraint_pool.specs.Nodes.{leaf_node, identity_nodes, identities_no
 use Rattle.constraint_pool.specs.Asked.{Appends, IdentityAsks, MemberAsks}
 use Rattle.constraint_pool.specs.Copies.{appends_none, appends_next, pool-kept}
 use Rattle.constraint_pool.specs.Lists.{identities-length, identities-append, identities-one, member-length, members-one, members-append, constraint-length}
-use Rattle.constraint_pool.specs.Whole.{AllBelow, IdentitiesAsk, MembersAsk, ConstraintAsks, Adds}
+use Rattle.constraint_pool.specs.Whole.{IdentitiesAsk, MembersAsk, ConstraintAsks, Adds}
 
 taken : (es : List ℕ) (k : ℕ) → k ≤ length es → length (take k es) ≡ k
 taken es k h = simp length-take (omega arith)

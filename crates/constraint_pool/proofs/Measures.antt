@@ -6,17 +6,16 @@ use mathlib.Core.Bool.{Bool, true, false}
 use mathlib.Core.List.{List, [], ◌∷◌, ◌++◌}
 use native.Mathlib.Omega.{arith}
 use native.Mathlib.Numerals.{add-one}
-use lib.ListN.{length, get_or, take, drop}
+use lib.ListN.{length, get_or, take}
 use lib.Dec.{leb}
 use lib.Seq.{take-suc, take_all}
 use borrow.Author.Tests.{le-leb, lt-leb, leb-true, leb-false}
-use Rattle.meaning.specs.Trees.{Expr, Each}
+use Rattle.meaning.specs.Trees.{Each}
 use Rattle.frames.specs.Order.{node_limit, expression_limit}
 use Rattle.frames.specs.Tables.{node_in, count_in, child_in}
 use Rattle.pool.specs.Words.{root_in}
 use Rattle.pool.specs.Pool.{Pool, node, children}
 use Rattle.pool.specs.Trees.{tree}
-use Rattle.pool.specs.Shaped.{Shaped}
 use Rattle.pool.specs.Tabled.{tabled}
 use Rattle.pool.specs.Ranking.{Tabling}
 use Rattle.pool.specs.Laws.Tabled.{node-count, node_at, root-at}
@@ -24,7 +23,6 @@ use Rattle.pool.specs.Laws.Nodes.{root-there}
 use Rattle.constraint_meaning.specs.Numbers.{size}
 use Rattle.constraint_pool.specs.Nodes.{body_of}
 use Rattle.constraint_pool.specs.Copies.{Law, count_law}
-use Rattle.constraint_pool.specs.Whole.{AllBelow}
 use Rattle.constraint_pool.specs.Sizes.{over, SizeAsks, members_size, MembersSizeAsks, WholeSizeAsks, columns_fit, counts_fit}
 use Rattle.constraint_pool.specs.declared.judge.Columns.{Columns}
 

@@ -1,18 +1,18 @@
 -- A tree copied, child by child. Over plain variables.
 -- Assumes nothing.
-use Prim.Native.Nat.{ℕ, zero, suc, ◌+◌, ◌-◌, ◌*◌, ◌≤◌, ◌<◌}
+use Prim.Native.Nat.{ℕ, zero, suc, ◌+◌, ◌-◌, ◌<◌}
 use mathlib.Core.Path.{◌≡◌, refl, sym, ◌∙◌, ap, subst}
 use mathlib.Core.List.{List, [], ◌∷◌, ◌++◌, append_assoc}
 use native.Mathlib.Omega.{arith}
 use lib.ListN.{length}
-use Rattle.meaning.specs.Trees.{Expr, Each}
+use Rattle.meaning.specs.Trees.{Each}
 use Rattle.frames.specs.Order.{node_limit}
 use Rattle.frames.specs.Tables.{node_in}
 use Rattle.frames.specs.declared.node.Node.{Node}
 use Rattle.pool.specs.Pool.{Pool, node, children}
 use Rattle.pool.specs.Trees.{tree}
 use Rattle.pool.specs.Shaped.{Shaped}
-use Rattle.pool.specs.Tabled.{Tables, tabled}
+use Rattle.pool.specs.Tabled.{tabled}
 use Rattle.pool.specs.Ranking.{Tabling}
 use Rattle.pool.specs.Laws.Tabled.{node-count, node_at}
 use Rattle.constraint_meaning.specs.Numbers.{size}

@@ -1,22 +1,21 @@
 -- What is judged is what the definition says, and what it lets through is room for the constraint. Over plain variables.
 -- Assumes nothing.
-use Prim.Native.Nat.{ℕ, zero, suc, ◌+◌, ◌-◌, ◌*◌, ◌≤◌, ◌<◌, min}
-use mathlib.Core.Path.{◌≡◌, refl, sym, ◌∙◌, ap, subst}
+use Prim.Native.Nat.{ℕ, suc, ◌+◌, ◌-◌, ◌*◌, ◌≤◌, ◌<◌, min}
+use mathlib.Core.Path.{◌≡◌, refl, sym, ◌∙◌, ap}
 use mathlib.Core.Bool.{Bool, true, false}
-use mathlib.Core.Option.{none, some}
 use mathlib.Core.List.{List, [], ◌∷◌}
 use native.Mathlib.Omega.{arith}
 use lib.ListN.{length, get_or, drop, length-drop, length-append}
 use lib.Dec.{leb}
-use borrow.Author.Tests.{le-leb, lt-leb, leb-true, leb-false}
-use Rattle.meaning.specs.Trees.{Forest, nth}
+use borrow.Author.Tests.{le-leb, lt-leb, leb-true}
+use Rattle.meaning.specs.Trees.{nth}
 use Rattle.meaning.specs.Refusals.{done}
 use Rattle.frames.specs.Order.{node_limit, expression_limit}
 use Rattle.pool.specs.Pool.{Pool, node}
 use Rattle.pool.specs.Trees.{forest}
 use Rattle.pool.specs.Tabled.{tabled}
 use Rattle.pool.specs.Ranking.{Tabling}
-use Rattle.pool.specs.Laws.Tabled.{node-count, expression-count}
+use Rattle.pool.specs.Laws.Tabled.{expression-count}
 use Rattle.pool.specs.Laws.Forest.{forest-has, forest-at, forest-size}
 use Rattle.constraint_meaning.specs.Tree.{columns_from, constraint_tree}
 use Rattle.constraint_meaning.specs.Numbers.{size, member_nodes as member_count, members_nodes as members_count, constraint-nodes}

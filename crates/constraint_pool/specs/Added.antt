@@ -1,6 +1,6 @@
 -- THE TABLES WITH THE CONSTRAINT hold the pool with it, which has its shape, is acyclic and stands for the extended forest.
 -- Assumes nothing.
-use Rattle.std.specs.Prelude.{ℕ, zero, suc, ◌+◌, ◌-◌, ◌*◌, ◌/◌, ◌%◌, ◌≤◌, ◌<◌, ◌≡◌, refl, get_or, drop, set}
+use Rattle.std.specs.Prelude.{ℕ, suc, ◌+◌, ◌-◌, ◌*◌, ◌≤◌, ◌<◌, ◌≡◌, get_or, drop, set}
 use Rattle.std.proofs.Common.{sym, ◌∙◌, add-zero, add-one, length-set, length-drop, get_or-drop}
 use Rattle.std.proofs.Math.Path.{ap, ap₂, subst}
 use mathlib.Core.List.{List, [], ◌∷◌, ◌++◌, append_assoc, append-nil}
@@ -10,7 +10,7 @@ use Rattle.kinds.specs.Write.{write, write-append, write_two, write-none}
 use Rattle.meaning.specs.Trees.{Each, Acyclic}
 use Rattle.frames.specs.Order.{node_limit, expression_limit}
 use Rattle.frames.specs.Tables.{put_node, head_word, child_word, expression_word, node_in, kind_in, next_in, id_in, count_in, sign_in, expression_in, first}
-use Rattle.frames.specs.Packing.{node_read, node_kept, put_node_length, expression_read, expression_kept, first-snoc, first-same}
+use Rattle.frames.specs.Packing.{node_read, node_kept, put_node_length, expression_read, expression_kept, first-snoc}
 use Rattle.frames.specs.declared.node.Node.{Node}
 use Rattle.frames.specs.declared.rest.Expression.{Expression}
 use Rattle.pool.specs.Pool.{Pool, node}
@@ -23,10 +23,10 @@ use Rattle.pool.specs.Laws.Forest.{forest-size}
 use Rattle.constraint_meaning.specs.Tree.{columns_from, constraint_tree, extended}
 use Rattle.constraint_meaning.specs.Ranks.{extended-acyclic}
 use Rattle.constraint_pool.specs.Nodes.{constraint_nodes, with_constraint, last}
-use Rattle.constraint_pool.specs.Asked.{words_of, magnitudes_of, Appends}
+use Rattle.constraint_pool.specs.Asked.{words_of, magnitudes_of}
 use Rattle.constraint_pool.specs.Whole.{AllBelow, ConstraintAsks, Adds}
 use Rattle.constraint_pool.specs.Fine.{Good, Fine}
-use Rattle.constraint_pool.specs.Extended.{Extends, all_fine, all_tied, extended_shaped}
+use Rattle.constraint_pool.specs.Extended.{Extends, all_fine, extended_shaped}
 use Rattle.constraint_pool.specs.Forest.{extended-forest}
 
 -- ---- nodes stored are read back

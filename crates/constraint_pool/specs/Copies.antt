@@ -1,10 +1,10 @@
 -- A tree's nodes by the child count of its root, over a pool with its shape; and nodes stored one after the other.
 -- Assumes nothing.
-use Rattle.std.specs.Prelude.{ℕ, zero, suc, ◌+◌, ◌-◌, ◌*◌, ◌≤◌, ◌<◌, ◌≡◌, refl, List, [], ◌∷◌, ◌++◌, length, set}
+use Rattle.std.specs.Prelude.{ℕ, zero, suc, ◌+◌, ◌*◌, ◌≤◌, ◌<◌, ◌≡◌, refl, List, [], ◌∷◌, ◌++◌, length, set}
 use Rattle.std.proofs.Common.{sym, ◌∙◌, ap, subst, arith, length-append}
 use Rattle.std.proofs.Math.ListN.{get_or}
 use Rattle.kinds.specs.Write.{write, write-next, write_two, write-none, write-before}
-use Rattle.meaning.specs.Trees.{Expr, Op, OpC}
+use Rattle.meaning.specs.Trees.{Expr}
 use Rattle.frames.specs.Tables.{put_node, head_word, child_word, node_in, kind_in, next_in, id_in, count_in, sign_in, child_in}
 use Rattle.frames.specs.Packing.{first-same}
 use Rattle.frames.specs.declared.node.Node.{Node}
@@ -16,7 +16,7 @@ use Rattle.pool.specs.Ranking.{Tabling}
 use Rattle.pool.specs.Laws.Trees.{arity, arity-is, tree_is}
 use Rattle.constraint_meaning.specs.Numbers.{size}
 use Rattle.constraint_pool.specs.Nodes.{moved, last, copied}
-use Rattle.constraint_pool.specs.Asked.{words_of, magnitudes_of, Appends, copied_at}
+use Rattle.constraint_pool.specs.Asked.{words_of, magnitudes_of, Appends}
 
 -- ---- stores
 

@@ -1,33 +1,27 @@
 -- THE POOL WITH THE CONSTRAINT has the shape of an admitted pool, and stands for the extended forest.
 -- Assumes nothing.
 use Prim.Native.Nat.{ℕ, zero, suc, ◌+◌, ◌-◌, ◌*◌, ◌≤◌, ◌<◌}
-use Rattle.std.specs.Prelude.{◌≡◌, Bool, true, false, cond, ◌⊎◌, eqb, ltb}
+use Rattle.std.specs.Prelude.{◌≡◌, Bool, true, false, ltb}
 use Rattle.std.proofs.Math.Path.{refl, ap, subst}
-use Rattle.std.proofs.Common.{sym, ◌∙◌, inl, inr, ⊎_elim, add-zero, zero-add, le_of_suc-le-suc, not-suc-le-zero, ltb-true, ltb-false}
-use Rattle.std.proofs.Math.Option.{Option, none, some}
+use Rattle.std.proofs.Common.{sym, ◌∙◌, add-zero, zero-add, le_of_suc-le-suc, not-suc-le-zero, ltb-true, ltb-false}
+use Rattle.std.proofs.Math.Option.{Option}
 use mathlib.Core.List.{List, [], ◌∷◌, ◌++◌, append_assoc, append-nil}
 use native.Mathlib.Omega.{arith}
 use Rattle.std.proofs.Math.ListN.{length, length-append}
 use Rattle.kinds.specs.KindBytes as kind
 use Rattle.kinds.specs.Kinds.{child_count}
 use Rattle.kinds.specs.Range.{within}
-use Rattle.meaning.specs.Trees.{Expr, Forest, Each, Op, OpC, RowKind, FlatKind, Leaf, nth}
-use Rattle.meaning.specs.Trees as meaning
+use Rattle.meaning.specs.Trees.{Each, nth}
 use Rattle.frames.specs.declared.node.Node.{Node}
 use Rattle.frames.specs.declared.rest.Expression.{Expression}
 use Rattle.pool.specs.Pool.{Pool, node, root_of, or_else, blank, children, child_uses, root_uses, uses, times}
-use Rattle.pool.specs.Trees.{leaf_of, literal_of, Class, binary, fused, constant, negation, leafy, class, grown, tree, expression_of, forest_from, forest}
 use Rattle.pool.specs.Shaped.{Shaped}
 use Rattle.pool.specs.Laws.Tabled.{nth-before, nth_end}
-use Rattle.pool.specs.Laws.Trees.{tree_is, children_are, tree-binary, tree-muladd, tree-constant, tree-neg, leaf-is}
-use Rattle.search_meaning.specs.Search.{identity_leaf}
-use Rattle.constraint_meaning.specs.Tree.{Numbered, number_from, plus, Intermediate, columns_from, minus_column, plus_member, plus_identities, plus_members, constraint_tree, extended}
-use Rattle.constraint_meaning.specs.Numbers.{size, number-free}
-use Rattle.constraint_pool.specs.Nodes.{leaf_node, pair_node, moved, last, copied, scaled, identity_nodes, identities_nodes, member_nodes, body_of, members_nodes, constraint_nodes, with_constraint}
-use Rattle.constraint_pool.specs.Copies.{size-some, copied-length}
-use Rattle.constraint_pool.specs.Lists.{member-length, constraint-length, identities-length}
+use Rattle.constraint_meaning.specs.Numbers.{size}
+use Rattle.constraint_pool.specs.Nodes.{leaf_node, last, identity_nodes, identities_nodes, member_nodes, body_of, members_nodes, constraint_nodes, with_constraint}
+use Rattle.constraint_pool.specs.Lists.{member-length, identities-length}
 use Rattle.constraint_pool.specs.Whole.{AllBelow}
-use Rattle.constraint_pool.specs.Fine.{Good, Labelled, labelled_tree, FineNode, Fine, fine-append, one, span, span-outside, span-before, span-once, one-other, times-append, uses-append, uses-split, Tied, tied_leaf, identity_tied, member_tied, identity-fine, member-fine, leaf-fine}
+use Rattle.constraint_pool.specs.Fine.{Good, Labelled, labelled_tree, Fine, fine-append, one, span, span-before, span-once, one-other, times-append, uses-split, Tied, tied_leaf, identity_tied, member_tied, identity-fine, member-fine, leaf-fine}
 
 -- ---- nodes appended
 

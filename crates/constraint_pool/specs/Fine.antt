@@ -1,13 +1,12 @@
 -- The nodes of the constraint have the shape that a pool's nodes have, and each but the last is used once. By pieces: a tree copied, an identity, a member.
 -- Assumes nothing.
-use Rattle.std.specs.Prelude.{ℕ, zero, suc, ◌+◌, ◌-◌, ◌*◌, ◌≤◌, ◌<◌, ◌≡◌, Bool, true, false, cond, List, [], ◌∷◌, ◌++◌, length, eqb}
+use Rattle.std.specs.Prelude.{ℕ, zero, suc, ◌+◌, ◌-◌, ◌≤◌, ◌<◌, ◌≡◌, Bool, true, false, cond, List, [], ◌∷◌, ◌++◌, length, eqb}
 use Rattle.std.proofs.Math.Path.{refl}
 use Rattle.std.proofs.Common.{sym, ◌∙◌, ap, subst, append_assoc, arith, add-zero, length-append, eq-eqb, ne_eqb, eqb-true}
-use Rattle.std.proofs.lemmas.Bool.{eqb-false}
 use Rattle.kinds.specs.KindBytes as kind
 use Rattle.kinds.specs.Kinds.{child_count}
 use Rattle.kinds.specs.Range.{within}
-use Rattle.meaning.specs.Trees.{Expr, Each, Op, OpC}
+use Rattle.meaning.specs.Trees.{Expr, Each}
 use Rattle.frames.specs.Packing.{FitsNode}
 use Rattle.frames.specs.declared.node.Node.{Node}
 use Rattle.pool.specs.Pool.{Pool, node, children, child_uses, times}

@@ -3,8 +3,8 @@
 use Prim.Native.Nat.{ℕ, zero, suc, ◌+◌, ◌-◌, ◌*◌, ◌/◌, ◌%◌, ◌≤◌, ◌<◌}
 use Rattle.std.specs.Prelude.{◌≡◌, eqb}
 use Rattle.std.proofs.Math.Path.{refl, ap, subst}
-use Rattle.std.proofs.Common.{sym, ◌∙◌, ap₂, add-zero, zero-add, le_of_suc-le-suc}
-use Rattle.std.proofs.Math.Option.{Option, none, some}
+use Rattle.std.proofs.Common.{sym, ◌∙◌, ap₂, add-zero, zero-add}
+use Rattle.std.proofs.Math.Option.{some}
 use mathlib.Core.List.{List, [], ◌∷◌, ◌++◌, append_assoc}
 use native.Mathlib.Omega.{arith}
 use Rattle.std.proofs.Math.ListN.{length, length-append}
@@ -13,16 +13,16 @@ use Rattle.meaning.specs.Trees.{Expr, Forest, Each, Op, OpC, RowKind, FlatKind, 
 use Rattle.meaning.specs.Trees as meaning
 use Rattle.frames.specs.declared.node.Node.{Node}
 use Rattle.frames.specs.declared.rest.Expression.{Expression}
-use Rattle.pool.specs.Pool.{Pool, node, root_of, or_else, blank, children}
-use Rattle.pool.specs.Trees.{leaf_of, literal_of, Class, binary, fused, constant, negation, leafy, class, grown, tree, expression_of, forest_from, forest}
+use Rattle.pool.specs.Pool.{Pool, node}
+use Rattle.pool.specs.Trees.{leaf_of, literal_of, Class, binary, fused, constant, negation, leafy, class, grown, tree, forest_from, forest}
 use Rattle.pool.specs.Shaped.{Shaped}
 use Rattle.pool.specs.Laws.Trees.{tree_is, children_are, tree-binary, tree-muladd, tree-constant, tree-neg, leaf-is}
 use Rattle.pool.specs.Laws.Forest.{forest-has, forest-at}
 use Rattle.search_meaning.specs.Search.{identity_leaf}
-use Rattle.constraint_meaning.specs.Tree.{Numbered, number_from, plus, Intermediate, columns_from, minus_column, plus_member, plus_identities, plus_members, constraint_tree, extended}
+use Rattle.constraint_meaning.specs.Tree.{Numbered, number_from, plus, columns_from, minus_column, plus_member, plus_identities, plus_members, constraint_tree, extended}
 use Rattle.constraint_meaning.specs.Numbers.{size, number-free, plus-free}
 use Rattle.constraint_pool.specs.Nodes.{leaf_node, pair_node, moved, last, copied, scaled, identity_nodes, identities_nodes, member_nodes, body_of, members_nodes, constraint_nodes, with_constraint}
-use Rattle.constraint_pool.specs.Copies.{size-some, copied-length}
+use Rattle.constraint_pool.specs.Copies.{copied-length}
 use Rattle.constraint_pool.specs.Lists.{member-length, identities-length}
 use Rattle.constraint_pool.specs.Whole.{AllBelow}
 use Rattle.constraint_pool.specs.Fine.{Labelled}

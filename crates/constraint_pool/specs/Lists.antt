@@ -1,8 +1,8 @@
 -- The nodes of identities and of members, one after the other.
 -- Assumes nothing.
-use Prim.Native.Nat.{ℕ, zero, suc, ◌+◌, ◌-◌, ◌*◌, ◌≤◌, ◌<◌}
+use Prim.Native.Nat.{ℕ, suc, ◌+◌, ◌*◌}
 use Rattle.std.specs.Prelude.{◌≡◌, refl}
-use Rattle.std.proofs.Common.{sym, ◌∙◌, ap}
+use Rattle.std.proofs.Common.{sym, ◌∙◌}
 use mathlib.Core.List.{List, [], ◌∷◌, ◌++◌, append_assoc, append-nil}
 use native.Mathlib.Omega.{arith}
 use Rattle.std.proofs.Math.Nat.{add-zero}
@@ -11,7 +11,7 @@ use Rattle.meaning.specs.Trees.{Expr}
 use Rattle.frames.specs.declared.node.Node.{Node}
 use Rattle.pool.specs.Pool.{Pool, node}
 use Rattle.constraint_meaning.specs.Numbers.{size}
-use Rattle.constraint_pool.specs.Nodes.{copied, identity_nodes, identities_nodes, member_nodes, body_of, members_nodes, constraint_nodes}
+use Rattle.constraint_pool.specs.Nodes.{identity_nodes, identities_nodes, member_nodes, body_of, members_nodes, constraint_nodes}
 use Rattle.constraint_pool.specs.Copies.{copied-length}
 
 pub identities-length : (vc n : ℕ) (es : List ℕ) → length (identities_nodes vc n es) ≡ 4 * length es

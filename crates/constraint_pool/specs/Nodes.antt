@@ -6,7 +6,6 @@ use Rattle.kinds.specs.KindBytes as kind
 use Rattle.frames.specs.declared.node.Node.{Node}
 use Rattle.pool.specs.Pool.{Pool, node, root_of}
 use Rattle.pool.specs.Trees.{tree}
-use Rattle.constraint_meaning.specs.Tree.{Intermediate}
 use Rattle.constraint_meaning.specs.Numbers.{size}
 
 -- a leaf of this kind with this id

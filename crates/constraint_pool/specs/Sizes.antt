@@ -1,6 +1,6 @@
 -- How many nodes the constraint has, capped one above the limit, and whether columns and counts fit.
 -- Assumes nothing: these are definitions.
-use Rattle.std.specs.Prelude.{ℕ, ◌+◌, ◌-◌, ◌*◌, ◌≤◌, ◌<◌, min, ◌≡◌, Bool, List, [], ◌∷◌, length, drop, leb}
+use Rattle.std.specs.Prelude.{ℕ, ◌+◌, ◌-◌, ◌*◌, ◌≤◌, ◌<◌, min, ◌≡◌, Bool, List, [], ◌∷◌, length, leb}
 use Rattle.frames.specs.Order.{node_limit, expression_limit}
 use Rattle.pool.specs.Pool.{Pool}
 use Rattle.pool.specs.Trees.{tree}

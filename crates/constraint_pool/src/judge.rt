@@ -11,7 +11,7 @@ use frames::tables::NODE_WORDS;
 const COLUMN_LIMIT: usize = 65536;
 
 // The columns and counts of a plan, and how many quotients it has.
-#[derive(Drop)]
+#[derive(Clone, Copy)]
 pub struct Columns {
     pub commitments: usize,
     pub n_cm1: usize,

@@ -1,4 +1,6 @@
 // The constraint polynomial's expression, added to a pool that stands in tables.
+#![tactic(auto)]
+
 pub mod copy;
 pub mod entry;
 pub mod extend;

@@ -4,11 +4,9 @@ use Prim.Native.Nat.{ℕ, ◌<◌, ◌≤◌}
 use mathlib.Core.Path.{◌≡◌, refl, sym, ◌∙◌, ap, subst}
 use mathlib.Core.Bool.{Bool, true, false, cond}
 use mathlib.Core.Option.{none, some}
-use mathlib.Core.List.{List, [], ◌∷◌}
+use mathlib.Core.List.{List}
 use mathlib.Core.Logic.{inl, inr}
 use native.Mathlib.Omega.{arith}
-use types.Run.{OneOf}
-use denote.Enum.Declared.{tag_of}
 use lib.Dec.{eqb}
 use lib.ListN.{length}
 use borrow.Author.Tests.{ne_eqb, lt-ltb, le-ltb}
@@ -19,24 +17,19 @@ use Rattle.degree_rule.specs.declared.reading.Reading.{Reading}
 use Rattle.degree_rule.specs.declared.reading.Reading.TheVariants.{Degree, Nothing, BadKind, OverLimit}
 use Rattle.degree_rule.specs.Tallies.{tally_of, limit_in, Whole, Entered}
 use Rattle.degree_rule.specs.Readings.{reading_of, found_of, degree_in, is_degree, settled_in, Passed, Betters}
-use Rattle.degree_rule.specs.contracts.reading.Reading.{the_type}
 use Rattle.degree_rule.specs.Laws.{held_same, reading-low}
 
 -- ── by its tag, as a `let .. else` tells ─────────────────────────────────────
-pub no-degree : (r : Reading) → OneOf (1 ∷ 2 ∷ 3 ∷ []) (tag_of the_type r) → is_degree r ≡ false
-no-degree (Degree n) (inl h) = absurd (omega (arith, h))
-no-degree (Degree n) (inr (inl h)) = absurd (omega (arith, h))
-no-degree (Degree n) (inr (inr h)) = absurd (omega (arith, h))
+pub no-degree : (r : Reading) → ((n : ℕ) → r ≡ Degree n → ⊥) → is_degree r ≡ false
+no-degree (Degree n) h = absurd (h n refl)
 no-degree Nothing h = refl
 no-degree BadKind h = refl
 no-degree OverLimit h = refl
 
 -- ── after a first that is something, or refused ──────────────────────────────
-pub pass_same : (a : Reading) (t : List ℕ) → Whole t → OneOf (0 ∷ 2 ∷ 3 ∷ []) (tag_of the_type a) → Passed a t a t
+pub pass_same : (a : Reading) (t : List ℕ) → Whole t → (a ≡ Nothing → ⊥) → Passed a t a t
 pass_same (Degree n) t w h = record { same = λ q. absurd (let z : ◌≡◌ {A = ℕ} 0 1 = cc in omega arith); none = λ q. q; held = held_same t w }
-pass_same Nothing t w (inl h) = absurd (omega (arith, h))
-pass_same Nothing t w (inr (inl h)) = absurd (omega (arith, h))
-pass_same Nothing t w (inr (inr h)) = absurd (omega (arith, h))
+pass_same Nothing t w h = absurd (h refl)
 pass_same BadKind t w h = record { same = λ q f m s. refl; none = λ q. q; held = held_same t w }
 pass_same OverLimit t w h = record { same = λ q f m s. refl; none = λ q. q; held = held_same t w }
 

@@ -1,6 +1,6 @@
 -- The degree rule at a node of an admitted pool, by its kind.
 -- Assumes nothing.
-use Prim.Native.Nat.{ℕ, ◌+◌, ◌-◌, ◌<◌, ◌≤◌, min, max}
+use Prim.Native.Nat.{ℕ, ◌+◌, ◌<◌, ◌≤◌, min, max}
 use mathlib.Core.Path.{◌≡◌, refl, sym, ◌∙◌, ap}
 use mathlib.Core.Bool.{Bool, true, false, cond}
 use mathlib.Core.Option.{Option, none, some}
@@ -11,7 +11,7 @@ use lib.Dec.{eqb, ltb}
 use borrow.Author.Tests.{eqb-true, eqb-false, ltb-true, ltb-false, lt-leb}
 use Rattle.meaning.specs.Refusals.{Refusal}
 use Rattle.meaning.specs.Trees.{Expr}
-use Rattle.search_meaning.specs.Degrees.{Class, full}
+use Rattle.search_meaning.specs.Degrees.{Class}
 use Rattle.search_meaning.specs.Search.{Tally, Out, done, refused, Search, Found, found, Reads, visit, pair, splits, leaf_rule, product, rule, free, is_constant}
 use Rattle.kinds.specs.KindBytes as kind
 use Rattle.kinds.specs.Range.{within, within-below}

@@ -9,7 +9,6 @@ use mathlib.Core.Logic.{◌⊎◌, inl, inr}
 use native.Mathlib.Omega.{arith}
 use lib.ListN.{get_or}
 use Rattle.search_meaning.specs.Search.{Tally, Out, done, Search, next, Found, pair, splits, better, settled}
-use Rattle.kinds.specs.KindBytes as kind
 use Rattle.frames.specs.Tables.{kind_in}
 use Rattle.pool.specs.Words.{c0_in, c1_in}
 use Rattle.pool.specs.Tabled.{Tables}

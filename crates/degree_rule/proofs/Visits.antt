@@ -11,7 +11,7 @@ use lib.Dec.{eqb, ltb}
 use lib.ListN.{get_or}
 use borrow.Author.Tests.{ne_eqb, lt-ltb, le-ltb, le-leb, eqb-true, eqb-false, ltb-false}
 use Rattle.meaning.specs.Refusals.{Refusal}
-use Rattle.search_meaning.specs.Search.{Tally, Out, done, refused, Search, next, counted, Found, found, set_of, both, Reads, visit, pair, splits, cut_body, product, rule, reference, body, body_in, free, member, insert}
+use Rattle.search_meaning.specs.Search.{Tally, Out, done, refused, Search, next, counted, Found, found, set_of, both, Reads, visit, pair, splits, cut_body, product, reference, body, body_in, free, member, insert}
 use Rattle.kinds.specs.KindBytes as kind
 use Rattle.kinds.specs.Range.{within}
 use Rattle.frames.specs.Order.{node_limit, expression_limit}

@@ -3,7 +3,7 @@
 use Rattle.std.specs.Prelude.{ℕ, ◌≤◌, ◌≡◌, refl, Bool, true, false, not, List}
 use Rattle.std.proofs.Common.{sym, ◌∙◌, subst, arith, lt-ltb}
 use Rattle.std.proofs.Math.Option.{none}
-use Rattle.search_meaning.specs.Search.{Tally, Out, done, refused, Search, next, Found, both}
+use Rattle.search_meaning.specs.Search.{Tally, Out, done, Search, next, Found, both}
 use Rattle.degree_rule.specs.declared.reading.Reading.{Reading}
 use Rattle.degree_rule.specs.declared.reading.Reading.TheVariants.{Degree, Nothing, BadKind, OverLimit}
 use Rattle.degree_rule.specs.Tallies.{tally_of, Whole, Held}

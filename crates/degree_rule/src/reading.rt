@@ -8,7 +8,7 @@ use crate::tally::{TALLY_WORDS, enter};
 use sets::{SET_WORDS, size};
 
 // The set that goes with a degree stands beside it, in the working set.
-#[derive(Drop)]
+#[derive(Clone, Copy)]
 pub enum Reading {
     Degree(u64),
     Nothing,

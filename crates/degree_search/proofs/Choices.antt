@@ -4,11 +4,8 @@ use Prim.Native.Nat.{ℕ, suc, ◌+◌, ◌-◌, ◌<◌, ◌≤◌}
 use mathlib.Core.Path.{◌≡◌, refl, sym, ◌∙◌, ap, ap₂, subst}
 use mathlib.Core.Bool.{false}
 use mathlib.Core.Option.{none, some}
-use mathlib.Core.List.{List, [], ◌∷◌}
-use mathlib.Core.Logic.{inl, inr}
+use mathlib.Core.List.{List}
 use native.Mathlib.Omega.{arith}
-use types.Run.{OneOf}
-use denote.Enum.Declared.{tag_of}
 use lib.ListN.{length, get_or}
 use Rattle.meaning.specs.Refusals.{Answer}
 use Rattle.meaning.specs.Trees.{Forest}
@@ -25,19 +22,16 @@ use Rattle.degree_rule.specs.declared.reading.Reading.TheVariants.{Degree, Nothi
 use Rattle.degree_rule.specs.Tallies.{tally_of, Whole}
 use Rattle.degree_rule.specs.Readings.{found_of, said_of, refused_in}
 use Rattle.degree_rule.specs.Laws.{calm-said}
-use Rattle.degree_rule.specs.contracts.reading.Reading.{the_type}
 use Rattle.degree_search.specs.Candidates.{Reads, AsksAll}
 use Rattle.degree_search.specs.Choosing.{Keeps, Fresh, Ready, Asks, Tells}
 use Rattle.degree_search.specs.declared.choose.Searched.{Searched}
 use Rattle.degree_search.specs.declared.choose.Searched.TheVariants as searched
 
-pub calm_tag : (r : Reading) → OneOf (0 ∷ 1 ∷ []) (tag_of the_type r) → refused_in r ≡ false
-calm_tag (Degree n) h = refl
-calm_tag Nothing h = refl
-calm_tag BadKind (inl h) = absurd (omega (arith, h))
-calm_tag BadKind (inr h) = absurd (omega (arith, h))
-calm_tag OverLimit (inl h) = absurd (omega (arith, h))
-calm_tag OverLimit (inr h) = absurd (omega (arith, h))
+pub calm_tag : (r : Reading) → (r ≡ BadKind → ⊥) → (r ≡ OverLimit → ⊥) → refused_in r ≡ false
+calm_tag (Degree n) h k = refl
+calm_tag Nothing h k = refl
+calm_tag BadKind h k = absurd (h refl)
+calm_tag OverLimit h k = absurd (k refl)
 
 module _ {t : Tables} {rank : ℕ → ℕ} {f es : List ℕ} {last : ℕ} (a : Asks t rank f es last) (limit : ℕ) where
   abbrev E : Forest

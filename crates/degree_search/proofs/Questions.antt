@@ -15,7 +15,7 @@ use Rattle.meaning.specs.Refusals.{Refusal, Answer, done, refused}
 use Rattle.meaning.specs.Trees.{Forest}
 use Rattle.meaning.specs.Laws.Tests.{done-same, done-not-refused, true-false}
 use Rattle.search_meaning.specs.Search.{Choice, bits_ok, all_below, unless, folds, tries, search}
-use Rattle.frames.specs.Order.{Input, nothing, blame_answer}
+use Rattle.frames.specs.Order.{Input, blame_answer}
 use Rattle.frames.specs.Tables as frames
 use Rattle.frames.specs.Tables.{input_in}
 use Rattle.frames.specs.Reading.{frames_in, reading, held, Fills}

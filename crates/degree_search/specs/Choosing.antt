@@ -3,7 +3,7 @@
 use Rattle.std.specs.Prelude.{ℕ, ◌-◌, ◌<◌, ◌≤◌, ◌≡◌, List, length, get_or}
 use Rattle.std.proofs.Math.Option.{none, some}
 use Rattle.meaning.specs.Refusals.{Refusal, Answer, done, refused}
-use Rattle.search_meaning.specs.Search.{Found, keep, finish, Choice, folds, tries}
+use Rattle.search_meaning.specs.Search.{keep, finish, Choice, folds, tries}
 use Rattle.pool.specs.Trees.{forest}
 use Rattle.pool.specs.Tabled.{Tables, tabled}
 use Rattle.pool.specs.Ranking.{Tabling}

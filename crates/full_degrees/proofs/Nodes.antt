@@ -18,7 +18,6 @@ use Rattle.frames.specs.Order.{node_limit, expression_limit}
 use Rattle.frames.specs.Tables.{kind_in, id_in}
 use Rattle.pool.specs.Words.{c0_in, c1_in, c2_in, root_in}
 use Rattle.pool.specs.Shaped.{Shaped}
-use Rattle.pool.specs.Trees.{tree}
 use Rattle.pool.specs.Tabled.{Tables, tabled}
 use Rattle.pool.specs.Ranking.{Tabling}
 use Rattle.full_degrees.specs.Coded.{unknown, coded, times_code, leaf_code}

@@ -1,6 +1,6 @@
 -- A node of an admitted pool, with the levels of expressions that its leaves may still lead through, and the parts that a recursion goes on to.
 -- Assumes nothing.
-use Rattle.std.specs.Prelude.{ℕ, ◌+◌, ◌-◌, ◌<◌, ◌≤◌, ◌≡◌, refl, Bool, true, false, List, [], ◌++◌, eqb, length}
+use Rattle.std.specs.Prelude.{ℕ, ◌-◌, ◌<◌, ◌≤◌, ◌≡◌, refl, Bool, true, false, List, [], ◌++◌, eqb, length}
 use Rattle.std.proofs.Common.{sym, ◌∙◌, ap, subst, inr, arith, eqb-true}
 use Rattle.std.proofs.Math.Option.{some}
 use Rattle.std.proofs.lemmas.Bool.{eqb-false}

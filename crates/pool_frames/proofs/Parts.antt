@@ -1,6 +1,6 @@
 -- A frame's parts put one after the other are the frame. Over plain lists and numbers.
 -- Assumes nothing.
-use Prim.Native.Nat.{ℕ, zero, suc, ◌+◌, ◌*◌, ◌/◌, ◌%◌, ◌≤◌, ◌<◌}
+use Prim.Native.Nat.{ℕ, zero, suc, ◌+◌, ◌≤◌, ◌<◌}
 use mathlib.Core.Path.{◌≡◌, refl, sym, ◌∙◌, ap}
 use mathlib.Core.Bool.{Bool, true, false, cond}
 use mathlib.Core.List.{List, [], ◌∷◌, ◌++◌, append-nil}
@@ -10,9 +10,8 @@ use borrow.Author.Tests.{le-ltb, lt-ltb}
 use Rattle.kinds.specs.Kinds.{carries_literal}
 use Rattle.kinds.specs.BigEndian.{u16_bytes}
 use Rattle.kinds.specs.Write.{write, write-none, write-next}
-use Rattle.frames.specs.Written.{child_bytes, u64_bytes, literal_bytes, node_bytes, expression_bytes}
+use Rattle.frames.specs.Written.{child_bytes, u64_bytes, literal_bytes, node_bytes}
 use Rattle.frames.specs.declared.node.Node.{Node}
-use Rattle.frames.specs.declared.rest.Expression.{Expression}
 use Rattle.pool_frames.specs.Frames.{framed, head_bytes, children_size, children_of, literal_of, Puts}
 
 -- ---- the children that are there

@@ -1,17 +1,15 @@
 -- The frames of nodes and of expressions, one after the other. Over plain lists and numbers.
 -- Assumes nothing.
 use Prim.Native.Nat.{ℕ, zero, suc, ◌+◌, ◌*◌, ◌≤◌, ◌<◌}
-use mathlib.Core.Path.{◌≡◌, refl, sym, ◌∙◌, ap, subst}
-use mathlib.Core.Bool.{true, false}
+use mathlib.Core.Path.{◌≡◌, refl, ◌∙◌, ap, subst}
 use mathlib.Core.List.{List, [], ◌∷◌, ◌++◌, map, map-append, append-nil, append_assoc}
 use native.Mathlib.Omega.{arith}
 use native.Mathlib.Numerals.{add-one}
 use native.Mathlib.Decide.{le_ind}
 use lib.ListN.{length, length-append}
-use lib.Dec.{leb}
 use borrow.Author.Tests.{le-leb, lt-leb}
-use Rattle.kinds.specs.Write.{write, write-length}
-use Rattle.frames.specs.Order.{node_limit, expression_limit}
+use Rattle.kinds.specs.Write.{write-length}
+use Rattle.frames.specs.Order.{node_limit}
 use Rattle.frames.specs.Tables.{node_in, expression_in, first}
 use Rattle.frames.specs.Written.{node_bytes, expression_bytes, behind_lengths, frames_of, pool_frames}
 use Rattle.frames.specs.declared.node.Node.{Node}

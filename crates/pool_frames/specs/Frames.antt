@@ -1,6 +1,6 @@
 -- One frame behind its length, and its parts as the code puts them one after the other.
 -- Assumes nothing: these are definitions.
-use Rattle.std.specs.Prelude.{ℕ, ◌+◌, ◌*◌, ◌/◌, ◌%◌, min, ◌≡◌, List, [], ◌∷◌, ◌++◌, length}
+use Rattle.std.specs.Prelude.{ℕ, ◌+◌, ◌*◌, ◌/◌, ◌%◌, min, ◌≡◌, List, [], ◌∷◌, length}
 use Rattle.kinds.specs.Kinds.{carries_literal}
 use Rattle.kinds.specs.Write.{write}
 use Rattle.frames.specs.Written.{child_bytes, literal_bytes}

@@ -1,18 +1,17 @@
 -- READING WHAT WAS WRITTEN GIVES THE POOL: for a pool that is well formed, and whatever was read is, but for child counts that admission refuses.
 -- Assumes nothing.
-use Rattle.std.specs.Prelude.{ℕ, zero, suc, ◌+◌, ◌*◌, ◌≤◌, ◌<◌, ◌≡◌, refl, Bool, true, false, cond, List, [], ◌∷◌, ◌++◌, length, take, drop, leb, eqb}
-use Rattle.std.proofs.Common.{sym, ◌∙◌, ap, arith, zero-add, le-ltb, leb-true}
+use Rattle.std.specs.Prelude.{ℕ, ◌≤◌, ◌≡◌, refl, Bool, true, false, List, [], ◌∷◌, ◌++◌, length, take, drop, leb, eqb}
+use Rattle.std.proofs.Common.{arith, zero-add, le-ltb, leb-true}
 use Rattle.std.proofs.Math.Seq.{take-append_seam}
 use Rattle.kinds.specs.Kinds.{carries_literal}
 use Rattle.kinds.specs.Write.{write, write-is}
 use Rattle.meaning.specs.Refusals.{Answer, done, refused, ◌then◌}
 use Rattle.meaning.specs.Trees.{Each}
 use Rattle.meaning.specs.Laws.Tests.{and_left, and_right, each-join}
-use Rattle.frames.specs.Nodes.{kind_byte, next_byte, id_field, count_byte, sign_field, magnitude_field, head_ok, literal_ok, child_of, sign_of, magnitude_of, node_size, node_ok, node_from}
+use Rattle.frames.specs.Nodes.{kind_byte, next_byte, id_field, count_byte, head_ok, literal_ok, child_of, sign_of, magnitude_of, node_size, node_ok, node_from}
 use Rattle.frames.specs.Rest.{expression_from, request_from}
 use Rattle.frames.specs.Frames.{Item, node, expression, request, frame_of}
 use Rattle.frames.specs.Order.{place, Input, nothing, counts_of, add, step}
-use Rattle.frames.specs.Tables.{first}
 use Rattle.frames.specs.Views.{View, bad, is_node, is_expression, is_request, view}
 use Rattle.frames.specs.Taking.{then-done}
 use Rattle.frames.specs.Reading.{read_from, frames_in, reading}

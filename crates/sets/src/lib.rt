@@ -1,4 +1,6 @@
 // A set of expression numbers as a bit array: eight words of bits, and a ninth with how many are set.
+#![tactic(auto)]
+
 ghost use Rattle.std.specs.Prelude.{◌≡◌, ◌<◌, length};
 ghost use Rattle.search_meaning.specs.Search.{member};
 ghost use Rattle.sets.specs.Members.{members, Good, Put};
