@@ -2,7 +2,7 @@
 -- Assumes nothing.
 use Prim.Native.Nat.{ℕ}
 use mathlib.Core.Path.{◌≡◌, sym, subst}
-use mathlib.Core.List.{List, [], ◌++◌}
+use mathlib.Core.List.{List, []}
 use Rattle.frames.specs.Tables.{Tables}
 use Rattle.frames.specs.declared.count.Blame.{Blame}
 use Rattle.feed.specs.Feeding.{fresh, Fed, Stands}

@@ -1,21 +1,18 @@
 // A page that is filled with text before it is written to standard output.
 ghost use Rattle.std.specs.Prelude.{◌+◌, ◌≤◌, length, ◌≡◌};
 
-use libc::STDOUT_FILENO;
-
-// The size of io's large buffer.
 pub const PAGE_SIZE: usize = 65536;
 
 // Puts the first n bytes of a text after the first `used` of a page, and answers how many are used then. A page without room for them is written
 // first; what fits no page is left out.
-pub fn put(page: &mut [u8], used: usize, text: &[u8], n: usize) -> usize
+pub fn put(rt: &impl Print, page: &mut [u8], used: usize, text: &[u8], n: usize) -> usize
     requires { (65536 ≡ length page.old) × (n ≤ length text.now) × (used ≤ 65536) }
     ensures { result ≤ 65536 }
 {
     if PAGE_SIZE < n {
         return used;
     }
-    let from = make_room(page, used, n);
+    let from = make_room(rt, page, used, n);
     let mut i: usize = 0;
     while i < n {
         page[from + i] = text[i];
@@ -25,20 +22,20 @@ pub fn put(page: &mut [u8], used: usize, text: &[u8], n: usize) -> usize
 }
 
 // Writes the page where n more bytes do not fit.
-fn make_room(page: &[u8], used: usize, n: usize) -> usize
+fn make_room(rt: &impl Print, page: &[u8], used: usize, n: usize) -> usize
     requires { (65536 ≡ length page.now) × (n ≤ 65536) × (used ≤ 65536) }
     ensures { result + n ≤ 65536 }
 {
     if PAGE_SIZE - n < used {
-        flush(page, used);
+        flush(rt, page, used);
         return 0;
     }
     used
 }
 
-// Writes the first `used` bytes of a page.
-pub fn flush(page: &[u8], used: usize)
+// Writes the first `used` bytes of a page. Where writing fails, the rest is lost and the program goes on.
+pub fn flush(rt: &impl Print, page: &[u8], used: usize)
     requires { used ≤ length page.now }
 {
-    io::write_all(STDOUT_FILENO, &page[..used]);
+    let _ = rt.write_all(&page[..used]);
 }

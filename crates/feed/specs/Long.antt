@@ -1,6 +1,6 @@
 -- A line that is too long is malformed however it goes on: what comes after it need not be read.
 -- Assumes nothing.
-use Rattle.std.specs.Prelude.{ℕ, ◌*◌, ◌%◌, ◌≤◌, min, ◌≡◌, refl, Bool, true, false, cond, not, ◌&&◌, List, [], ◌∷◌, ◌++◌, length, eqb, leb}
+use Rattle.std.specs.Prelude.{ℕ, ◌*◌, ◌%◌, ◌≤◌, ◌≡◌, refl, Bool, true, false, cond, not, ◌&&◌, List, [], ◌∷◌, ◌++◌, length, eqb}
 use Rattle.std.proofs.Common.{sym, ◌∙◌, ap, append_assoc, append-nil, arith, length-append, eqb-true}
 use Rattle.std.proofs.Math.Option.{none}
 use Rattle.std.proofs.lemmas.Bool.{lt-leb}

@@ -1,14 +1,13 @@
 -- THE TRANSCRIPT: the lines that are put one by one are what document 01's program prints to the whole text that was fed.
 -- Assumes nothing.
 use Prim.Native.Nat.{ℕ, zero, suc, ◌+◌, ◌*◌, ◌<◌, ◌≤◌}
-use Rattle.std.specs.Prelude.{◌≡◌, Bool, true, false, cond, length, eqb, ltb}
+use Rattle.std.specs.Prelude.{◌≡◌, length}
 use Rattle.std.proofs.Math.Path.{refl, ap}
 use Rattle.std.proofs.Common.{sym, ◌∙◌, subst, zero-add}
-use Rattle.std.proofs.Math.Option.{Option}
 use mathlib.Core.List.{List, [], ◌∷◌, ◌++◌}
 use native.Mathlib.Omega.{arith}
 use borrow.Author.Tests.{ne_eqb, lt-ltb, le-ltb}
-use Rattle.meaning.specs.Refusals.{Refusal, number, Answer, done, refused, ◌then◌}
+use Rattle.meaning.specs.Refusals.{number, Answer, done, refused, ◌then◌}
 use Rattle.meaning.specs.Building.{Segment}
 use Rattle.meaning.specs.Laws.Tests.{number-not-zero, done-not-refused}
 use Rattle.kinds.specs.Steps.{step_size, step_at, steps_of, steps-none, steps-more, steps-joined}
@@ -18,11 +17,11 @@ use Rattle.frames.specs.Tables.{Tables}
 use Rattle.frames.specs.Text.{reading_text}
 use Rattle.pool.specs.Numbered.{pool_of}
 use Rattle.starkinfo_codegen.specs.Encoding.{records, records-length, encoded}
-use Rattle.requests.specs.Whole.{Totals, totals, list_after}
-use Rattle.requests.specs.Runs.{requests_of, Runs, outcome_says, RunIs}
+use Rattle.requests.specs.Whole.{totals, list_after}
+use Rattle.requests.specs.Runs.{requests_of, Runs, outcome_says}
 use Rattle.requests.specs.Serving.{Accepted, accepted}
 use Rattle.requests.specs.declared.run.Outcome.{Outcome}
-use Rattle.output.specs.Output.{list_lines, counter_line, refusal_line, printed}
+use Rattle.output.specs.Output.{counter_line, refusal_line, printed}
 use Rattle.output.specs.Records.{record_line, record_lines}
 use Rattle.output.specs.Laws.{record-lines-append, record-lines-one}
 use Rattle.transcript.specs.Concluding.{Concluded}

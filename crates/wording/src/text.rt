@@ -2,8 +2,7 @@
 ghost use Rattle.std.specs.Prelude.{◌≤◌, length};
 ghost use Rattle.wording.specs.Pages.{Puts};
 
-// As many digits as the largest number of 64 bits has.
-const DIGITS: usize = 20;
+use itoa::Buffer;
 
 // What does not fit is left out.
 pub fn put_text(page: &mut [u8], used: usize, text: &[u8]) -> usize
@@ -25,9 +24,8 @@ pub fn put_decimal(page: &mut [u8], used: usize, x: u64) -> usize
     requires { used ≤ length page.old }
     ensures { Puts used result (length page.new) }
 {
-    let mut digits = [0u8; DIGITS];
-    let n = io::decimal(x, &mut digits);
-    put_text(page, used, &digits[..n])
+    let mut digits = Buffer::new();
+    put_text(page, used, digits.format(x).as_bytes())
 }
 
 // So many of a thing: its name for one, or for none and several.
