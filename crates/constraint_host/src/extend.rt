@@ -58,8 +58,7 @@ fn tell_numbers(r: Constrained, numbers: &mut [usize; NUMBERS])
 
 // Adds the constraint polynomial of the identities to a pool, with the columns that a search chose: puts the frames of the pool with it at the front of `out`, and
 // says its numbers.
-#[unsafe(no_mangle)]
-pub extern "C" fn enonkasse_constraint_pool(
+pub fn enonkasse_constraint_pool(
     frames: &[u8],
     identities: &[u64],
     chosen: &[u64; SET_WORDS],

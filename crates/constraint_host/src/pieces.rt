@@ -33,8 +33,7 @@ fn closing_number(r: Closing) -> u8
 }
 
 // Marks these expressions of a pool that has so many at both rows: they stand in columns, and no list makes them any more.
-#[unsafe(no_mangle)]
-pub extern "C" fn enonkasse_mark(
+pub fn enonkasse_mark(
     members: &[u64],
     expressions: usize,
     context: &mut [u8],
@@ -46,8 +45,7 @@ pub extern "C" fn enonkasse_mark(
 }
 
 // Puts the closing product, q0 = the last destination times Zi, at the end of the last block of a context of a pool that has so many expressions.
-#[unsafe(no_mangle)]
-pub extern "C" fn enonkasse_close(expressions: usize, context: &mut [u8], list: &mut [u8]) -> u8
+pub fn enonkasse_close(expressions: usize, context: &mut [u8], list: &mut [u8]) -> u8
     ensures { CloseNumbered expressions context.old context.new list.old list.new result }
 {
     closing_number(close(expressions, context, list))

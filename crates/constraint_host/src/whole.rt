@@ -123,8 +123,7 @@ fn tell_found(r: Generated, found: &mut [u64; 2])
 
 // Searches, adds the constraint to the pool, and makes step3 in the first context and step42ns in the second: all of it or nothing. Says q and the visits, how many steps
 // each of the six lists has, and how many bytes the frames of the pool with the constraint have.
-#[unsafe(no_mangle)]
-pub extern "C" fn enonkasse_constraint(
+pub fn enonkasse_constraint(
     frames: &[u8],
     identities: &[u64],
     vc: u16,

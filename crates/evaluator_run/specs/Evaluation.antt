@@ -3,7 +3,7 @@
 -- unknown step byte or too few sources, a source neither written nor given, a destination of a kind that no step writes. 9, last: more cells than the
 -- limit or than the lent room.
 -- Assumes nothing: these are definitions.
-use Rattle.std.specs.Prelude.{ℕ, ◌+◌, ◌*◌, Bool, false, cond, ◌&&◌, ◌||◌, List, [], ◌∷◌, ◌++◌, length, leb}
+use Rattle.std.specs.Prelude.{ℕ, ◌*◌, Bool, false, cond, ◌&&◌, ◌||◌, List, [], ◌∷◌, ◌++◌, length, leb}
 use Rattle.std.proofs.Math.Option.{Option, none, some}
 use Rattle.kinds.specs.Write.{write}
 use Rattle.kinds.specs.BigEndian.{u16_bytes}

@@ -120,8 +120,7 @@ fn tell_cells(r: Evaluation, cells: &mut [usize; 1])
 }
 
 // Makes a context fresh. Where its size is not a context's it is a malformed record.
-#[unsafe(no_mangle)]
-pub extern "C" fn enonkasse_fresh(context: &mut [u8]) -> u8
+pub fn enonkasse_fresh(context: &mut [u8]) -> u8
     ensures { FreshNumbered context.old context.new result }
 {
     if fresh(context) {
@@ -131,8 +130,7 @@ pub extern "C" fn enonkasse_fresh(context: &mut [u8]) -> u8
 }
 
 // Serves the requests among the frames; the last of them asks for a result of this kind and id, or, where both are 0, for none.
-#[unsafe(no_mangle)]
-pub extern "C" fn enonkasse_serve(
+pub fn enonkasse_serve(
     frames: &[u8],
     kind: u8,
     id: u16,
@@ -146,8 +144,7 @@ pub extern "C" fn enonkasse_serve(
 }
 
 // Builds the first, i and last lists, and says how many steps each has.
-#[unsafe(no_mangle)]
-pub extern "C" fn enonkasse_build(
+pub fn enonkasse_build(
     frames: &[u8],
     context: &mut [u8],
     list: &[u8],
@@ -165,8 +162,7 @@ pub extern "C" fn enonkasse_build(
 
 // Runs a list downwards modulo a number over the pool of the frames, from the values given; puts the final value of every cell written at the front of `out`
 // (12 bytes each: kind, prime, id, value), and says how many there are.
-#[unsafe(no_mangle)]
-pub extern "C" fn enonkasse_evaluate(
+pub fn enonkasse_evaluate(
     frames: &[u8],
     list: &[u8],
     modulus: u32,

@@ -62,8 +62,7 @@ fn tell_counter(r: Walk, counter: &mut [usize; 1])
 }
 
 // Fixes the references of a segment's three lists for the domain 0, "n", or 1, "2ns", and says the segment's counter after it.
-#[unsafe(no_mangle)]
-pub extern "C" fn enonkasse_fix(
+pub fn enonkasse_fix(
     frames: &[u8],
     plan: &[u8],
     domain: u8,
@@ -80,8 +79,7 @@ pub extern "C" fn enonkasse_fix(
 }
 
 // Makes trees of the cm of a segment's three lists, for the verifier's query code.
-#[unsafe(no_mangle)]
-pub extern "C" fn enonkasse_query(
+pub fn enonkasse_query(
     frames: &[u8],
     plan: &[u8],
     first: &mut [u8],
@@ -94,8 +92,7 @@ pub extern "C" fn enonkasse_query(
 }
 
 // Gives every reference of a segment's three lists its dimension, the x kinds the one of this pass.
-#[unsafe(no_mangle)]
-pub extern "C" fn enonkasse_dimension(
+pub fn enonkasse_dimension(
     frames: &[u8],
     plan: &[u8],
     dim_x: u16,
@@ -109,8 +106,7 @@ pub extern "C" fn enonkasse_dimension(
 }
 
 // The same for a first list alone, where the x kinds have dimension 3.
-#[unsafe(no_mangle)]
-pub extern "C" fn enonkasse_dimension_first(frames: &[u8], plan: &[u8], first: &mut [u8]) -> u8
+pub fn enonkasse_dimension_first(frames: &[u8], plan: &[u8], first: &mut [u8]) -> u8
     ensures { FirstNumbered frames.now plan.now first.old first.new result }
 {
     walk_number(dimension_first(frames, plan, first))

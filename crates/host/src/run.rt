@@ -66,8 +66,7 @@ fn tell_totals(r: Outcome, totals: &mut [usize; 2])
 
 // Serves the requests among the frames on a fresh context of its own and puts the first list at the front of `list`; says how many steps it has, and where
 // the temporary counter stands.
-#[unsafe(no_mangle)]
-pub extern "C" fn enonkasse_run(frames: &[u8], list: &mut [u8], totals: &mut [usize; 2]) -> u8
+pub fn enonkasse_run(frames: &[u8], list: &mut [u8], totals: &mut [usize; 2]) -> u8
     ensures { RunNumbered frames.now list.old list.new totals.old totals.new result }
 {
     let r = run(frames, list);

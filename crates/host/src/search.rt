@@ -72,8 +72,7 @@ fn tell_outcome(r: Outcome, found: &mut [u64; 2])
 
 // Searches for the columns that bring the degree of the identities down, in at most `limit` visits: the expressions chosen, a bit each, and q with the
 // visits that it took.
-#[unsafe(no_mangle)]
-pub extern "C" fn enonkasse_search(
+pub fn enonkasse_search(
     frames: &[u8],
     identities: &[u64],
     n_bits: u64,

@@ -115,8 +115,7 @@ fn map_columns(
     number_of(map_section(sections, dims, positions, widths))
 }
 
-#[unsafe(no_mangle)]
-pub extern "C" fn enonkasse_map_section(
+pub fn enonkasse_map_section(
     rs: &mut [PolType],
     sections: &mut [u16],
     dims: &mut [u16],

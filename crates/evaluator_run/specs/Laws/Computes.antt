@@ -14,14 +14,13 @@ use Rattle.kinds.specs.BigEndian.{u16_at}
 use Rattle.kinds.specs.References.{ref_at}
 use Rattle.kinds.specs.Steps.{step_size, step_at, steps_of, steps-none, steps-more}
 use Rattle.kinds.specs.declared.reference.Reference.{Reference}
-use Rattle.kinds.specs.declared.step.Step as bytes
 use Rattle.meaning.specs.Refusals.{Refusal, Answer, done, refused, ◌then◌}
 use Rattle.meaning.specs.Trees.{Lit, lit, nth, Each, up_to}
 use Rattle.meaning.specs.Values.{bind}
 use Rattle.meaning.specs.Models.{modulo}
 use Rattle.meaning.specs.Steps.{kind_no, Cell, Step}
 use Rattle.meaning.specs.Running.{Store, empty, run}
-use Rattle.meaning.specs.Laws.Tests.{and_left, and_right, each-join}
+use Rattle.meaning.specs.Laws.Tests.{true-false, and_left, and_right, each-join}
 use Rattle.evaluator_cells.specs.Literals.{NumbersOf}
 use Rattle.evaluator_cells.specs.Given.{Lent, lent, given}
 use Rattle.lists.specs.Records.{record_count, records_in, good_record, good_records, good_list}
@@ -222,7 +221,7 @@ module _ (ns : List ℕ) (ws : List ℕ) (m : ℕ) (list : List ℕ) (asks : Com
     answer-over h L N = by (marks_to m g (replicate slot_count 0) (records_in list)) (marks L) (sym ec ∙ h)
       where
         by : (z : Option (List ℕ)) → MarkedAll L m g (records_in list) empty z → is_known z ≡ true → ComputedIs L g m list out out computed.Full
-        by none y q = absurd (let z : ◌≡◌ {A = ℕ} 0 1 = cc in omega arith)
+        by none y q = absurd (true-false {b = false} q refl)
         by (some z) y q = full_is L g m list out y.0 y.1 y.2.0 y.2.1 (rw (lt-leb (length (written y.0)) cell_limit (sim L N over e y.0 y.1)))
 
     pub answer-over-refused : c ≡ false → ComputeGiven ns ws m list out out computed.NoRule
@@ -230,7 +229,7 @@ module _ (ns : List ℕ) (ws : List ℕ) (m : ℕ) (list : List ℕ) (asks : Com
       where
         by : (z : Option (List ℕ)) → MarkedAll L m g (records_in list) empty z → is_known z ≡ false → ComputedIs L g m list out out computed.NoRule
         by none y q = refused-is L g m list out y
-        by (some z) y q = absurd (let z : ◌≡◌ {A = ℕ} 0 1 = cc in omega arith)
+        by (some z) y q = absurd (true-false {b = true} refl q)
 
   module _ (hs xs ks vs : List ℕ) (n : ℕ) (e : next (table hs xs ks vs n) ≡ run_to ns m g t (records_in list)) where
     ended : (L : ℕ → Lit) → NumbersOf L m ns → Simulated L m g (records_in list) empty [] (next (table hs xs ks vs n))

@@ -1,6 +1,6 @@
 -- THE RUN OVER TABLES IS MEANING'S RUNNING, of records that are well formed: read, computed, written, step by step and list by list.
 -- Assumes nothing.
-use Rattle.std.specs.Prelude.{ℕ, ◌+◌, ◌<◌, ◌≤◌, ◌≡◌, Bool, cond, ◌&&◌, eqb, leb}
+use Rattle.std.specs.Prelude.{ℕ, ◌<◌, ◌≤◌, ◌≡◌, Bool, cond, ◌&&◌, eqb, leb}
 use Rattle.std.proofs.Math.Path.{refl}
 use Rattle.std.proofs.Common.{ap, length-append, leb-true, eqb-true}
 use Rattle.std.proofs.Math.Bool.{true, false}

@@ -4,7 +4,6 @@ use native.Mathlib.Omega.{arith}
 use mathlib.Core.Path.{refl}
 use Rattle.evaluator_run.specs.Laws.Runs.{told-no-rule, told_over, told-cells}
 use Rattle.evaluator_run.specs.Laws.Computes.{kept-zeros, answer-no-rule, answer-over, answer-over-refused, answer-asks, answer-cells}
-use borrow.Author.Rules.{rules}
 use Rattle.evaluator_run.proofs.compute.compute.Goals as goal
 
 pub run_list-requires : goal.run_list-requires

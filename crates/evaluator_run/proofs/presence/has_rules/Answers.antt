@@ -1,15 +1,6 @@
 -- `evaluator_run::presence::has_rules` meets its contract: the records before k have rules, and left the marks that stand.
 -- Assumes nothing.
-use borrow.Author.Tests.{not-true, not-false}
-use Prim.Native.Nat.{◌≤◌, ◌-◌}
-use mathlib.Core.Path.{◌≡◌}
-use mathlib.Core.Option.{some}
 use native.Mathlib.Omega.{arith}
-use lib.ListN.{replicate}
-use Rattle.kinds.specs.Steps.{steps_of}
-use Rattle.evaluator_cells.specs.Given.{lent}
-use Rattle.lists.specs.Records.{record_count}
-use Rattle.evaluator_run.specs.Presence.{slot_count, marks_to}
 use Rattle.lists.specs.Laws.{record_in}
 use Rattle.evaluator_run.specs.Laws.Marks.{marks_begin, marks-next, marks-stop, marks-end}
 use Rattle.evaluator_run.proofs.presence.has_rules.Goals as goal

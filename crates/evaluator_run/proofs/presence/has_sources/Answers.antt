@@ -1,6 +1,5 @@
 -- `evaluator_run::presence::has_sources` meets its contract: each way through the code is one law.
 -- Assumes nothing.
-use borrow.Author.Tests.{not-true, not-false}
 use mathlib.Core.Path.{ap, refl}
 use Rattle.evaluator_step.specs.Laws.Steps.{gives_none, gives_one, gives-two, gives-no-first, gives-no-second}
 use Rattle.evaluator_run.specs.Presence.{is_known}

@@ -1,6 +1,5 @@
 -- `evaluator_run::presence::mark_step` meets its contract.
 -- Assumes nothing.
-use borrow.Author.Tests.{not-true, not-false}
 use native.Mathlib.Omega.{arith}
 use Rattle.evaluator_run.specs.Laws.Marks.{mark-no-value, mark_unwritable, mark_made}
 use Rattle.evaluator_run.proofs.presence.mark_step.Goals as goal

@@ -1,6 +1,5 @@
 -- `evaluator_run::records::is_well_formed` meets its contract.
 -- Assumes nothing.
-use borrow.Author.Tests.{not-true, not-false}
 use Rattle.evaluator_run.specs.Laws.Records.{formed-modulus, formed-list, formed-values}
 use Rattle.evaluator_run.proofs.records.is_well_formed.Goals as goal
 

@@ -1,12 +1,7 @@
 -- `evaluator_run::run::run_list` meets its contract: the records before k were run, to the table that stands.
 -- Assumes nothing.
-use Prim.Native.Nat.{◌≤◌, ◌-◌}
-use mathlib.Core.Path.{◌≡◌, sym}
+use mathlib.Core.Path.{sym}
 use native.Mathlib.Omega.{arith}
-use Rattle.kinds.specs.Steps.{steps_of}
-use Rattle.evaluator_cells.specs.Given.{lent}
-use Rattle.lists.specs.Records.{record_count}
-use Rattle.evaluator_step.specs.Machine.{table, Kept, next, run_to}
 use Rattle.lists.specs.Laws.{record_in}
 use Rattle.evaluator_step.specs.Laws.Steps.{kept_step}
 use Rattle.evaluator_run.specs.Laws.Runs.{told-no-rule, told_over, told-cells, run_begins, run-goes-on, run-refused, run-over, run_ends}
