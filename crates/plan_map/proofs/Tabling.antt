@@ -1,5 +1,5 @@
 -- The cm and the expressions, from tables with numbers at their front. Assumes nothing.
-use Prim.Native.Nat.{ℕ, ◌+◌, ◌<◌, ◌≤◌}
+use Prim.Native.Nat.{ℕ, ◌<◌, ◌≤◌}
 use mathlib.Core.Path.{◌≡◌, sym, ◌∙◌, ap, ap₂}
 use mathlib.Core.List.{List, ◌++◌}
 use native.Mathlib.Omega.{arith}

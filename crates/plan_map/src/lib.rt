@@ -1,4 +1,6 @@
 // `map`: from frames and a plan's record to its whole answer.
+#![tactic(auto)]
+
 pub mod map;
 mod parts;
 mod put;

@@ -1,4 +1,6 @@
 // The tables that a plan gives to the walks over lists and to the answer of `map`.
+#![tactic(auto)]
+
 pub mod columns;
 pub mod exp2pol;
 pub mod numbers;

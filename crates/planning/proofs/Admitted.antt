@@ -1,13 +1,13 @@
 -- An admitted pool and a plan that fits: 16, 11 and 12, or its records.
 -- Assumes nothing.
 use Prim.Native.Nat.{ℕ, ◌≤◌}
-use mathlib.Core.Path.{◌≡◌, refl, sym, ◌∙◌, ap, subst}
+use mathlib.Core.Path.{◌≡◌, refl, sym, ◌∙◌, ap}
 use mathlib.Core.Bool.{Bool, true, false}
 use mathlib.Core.Option.{none}
 use mathlib.Core.List.{List}
 use native.Mathlib.Omega.{arith}
-use lib.ListN.{length, take, replicate, length-replicate}
-use Rattle.meaning.specs.Refusals.{Refusal, Answer, done, refused}
+use lib.ListN.{length, take, length-replicate}
+use Rattle.meaning.specs.Refusals.{Refusal, refused}
 use Rattle.pool.specs.Tabled.{Tables, tabled}
 use Rattle.plans.specs.Plan.{Headed}
 use Rattle.plans.specs.Columns.{record_limit}
@@ -18,8 +18,7 @@ use Rattle.map_records.specs.Tables.{Holds, Ready}
 use Rattle.map_records.specs.All.{AllAsks, Mapped}
 use Rattle.map_records.specs.declared.all.Records.{Records}
 use Rattle.planning.specs.Planning.{columned}
-use Rattle.planning.specs.Answers.{AdmittedAsks, Stands, Tells}
-use Rattle.planning.specs.declared.answer.Plan.{Plan}
+use Rattle.planning.specs.Answers.{AdmittedAsks, Tells}
 use Rattle.planning.specs.declared.answer.Planning.TheVariants as planning
 
 module _ {b : List ℕ} {t : Tables} {rank : ℕ → ℕ} {table ss ds cs : List ℕ} (a : AdmittedAsks b t rank table ss ds cs) where

@@ -1,7 +1,7 @@
 -- A pool in tables: the refusals of its shape, or what comes of a pool that has one.
 -- Assumes nothing.
-use Prim.Native.Nat.{ℕ, zero, suc, ◌+◌, ◌-◌, ◌*◌, ◌<◌, ◌≤◌}
-use mathlib.Core.Path.{◌≡◌, refl, sym, ◌∙◌, ap, subst}
+use Prim.Native.Nat.{ℕ, zero, suc, ◌+◌, ◌-◌, ◌*◌, ◌<◌}
+use mathlib.Core.Path.{◌≡◌, refl, sym, ◌∙◌, subst}
 use mathlib.Core.Bool.{Bool, true, false, cond}
 use mathlib.Core.Option.{Option, none}
 use mathlib.Core.List.{List, [], ◌∷◌, ◌++◌}
@@ -27,7 +27,7 @@ use Rattle.plans.specs.Passed.{names-there}
 use Rattle.map_records.specs.Mapping.{Mapping}
 use Rattle.planning.specs.Laws.QTable.{q-table}
 use Rattle.planning.specs.Planning.{all_there, plan_shape, Verdict}
-use Rattle.planning.specs.Answers.{unplanned_says, ShapeAsked, ReadAsked, PoolAsked, ShapedAsks, Ruled, Tells}
+use Rattle.planning.specs.Answers.{unplanned_says, ShapeAsked, PoolAsked, ShapedAsks, Ruled}
 use Rattle.planning.specs.declared.answer.Unplanned.{Unplanned}
 use Rattle.planning.specs.declared.answer.Planning.{Planning}
 use Rattle.planning.specs.declared.answer.Planning.TheVariants as planning

@@ -1,13 +1,13 @@
 -- What was read: the refusal of an argument, or what comes of the pool.
 -- Assumes nothing.
-use Prim.Native.Nat.{ℕ, ◌≤◌}
+use Prim.Native.Nat.{ℕ}
 use mathlib.Core.Path.{◌≡◌, refl, sym, ◌∙◌, ap, subst}
-use mathlib.Core.Bool.{Bool, true, false, cond}
-use mathlib.Core.Option.{Option, none}
+use mathlib.Core.Bool.{Bool, true, false}
+use mathlib.Core.Option.{Option}
 use mathlib.Core.List.{List}
 use Rattle.meaning.specs.Refusals.{Refusal, Answer, done, refused, ◌then◌}
 use Rattle.meaning.specs.Laws.Tests.{done-same, done-not-refused}
-use Rattle.frames.specs.Order.{Input, blame_answer}
+use Rattle.frames.specs.Order.{Input}
 use Rattle.frames.specs.Tables as frames
 use Rattle.frames.specs.Tables.{input_in}
 use Rattle.frames.specs.Reading.{reading, held, Fills}
@@ -25,8 +25,8 @@ use Rattle.plans.specs.Columns.{fits}
 use Rattle.plans.specs.Passed.{plan-whole, few-records}
 use Rattle.map_records.specs.Mapping.{Mapping, mapped}
 use Rattle.planning.specs.Laws.Argued.{no-plan, too_many_lem, ill-formed, well_formed_lem, refused-both, unplanned-then}
-use Rattle.planning.specs.Planning.{argued, Verdict, columned, Planned, planned, Judged, Plans}
-use Rattle.planning.specs.Answers.{unplanned_says, Fitting, ReadAsked, PoolAsked, PoolGiven, Ruled, Tells, Told, Argued, ReadGiven, FramesAsked, FramesGiven}
+use Rattle.planning.specs.Planning.{argued, Verdict, columned, Planned, planned, Judged}
+use Rattle.planning.specs.Answers.{unplanned_says, Fitting, ReadAsked, PoolAsked, Ruled, Tells, Told, Argued, ReadGiven, FramesAsked, FramesGiven}
 use Rattle.planning.specs.declared.answer.Unplanned.{Unplanned}
 use Rattle.planning.specs.declared.answer.Unplanned.TheVariants as why
 use Rattle.planning.specs.declared.answer.Planning.{Planning}

@@ -1,7 +1,7 @@
 -- What a plan names and what leaves read, of a pool in tables; and the shape of pool and plan by what was found.
 -- Assumes nothing.
-use Prim.Native.Nat.{ℕ, zero, suc, ◌<◌, ◌≤◌}
-use mathlib.Core.Path.{◌≡◌, refl, sym, ◌∙◌, ap, subst}
+use Prim.Native.Nat.{ℕ, zero, suc, ◌<◌}
+use mathlib.Core.Path.{◌≡◌, refl, sym, ◌∙◌, ap}
 use mathlib.Core.Bool.{Bool, true, false, ◌&&◌, cond}
 use mathlib.Core.Option.{Option, none}
 use mathlib.Core.List.{List}
@@ -9,11 +9,9 @@ use native.Mathlib.Omega.{arith}
 use lib.ListN.{length}
 use Rattle.meaning.specs.Laws.Tests.{and_left}
 use Rattle.meaning.specs.Refusals.{Refusal, Answer, done, refused, ◌then◌}
-use Rattle.frames.specs.Tables.{kind_in, id_in}
-use Rattle.pool.specs.Pool.{Pool, node}
+use Rattle.pool.specs.Pool.{Pool}
 use Rattle.pool.specs.Admission.{shape}
 use Rattle.pool.specs.Tabled.{Tables, tabled}
-use Rattle.pool.specs.Ranking.{Tabling}
 use Rattle.pool.specs.Laws.Tabled.{node-count, expression-count, node_at}
 use Rattle.plans.specs.Plan.{every, q2exp_count}
 use Rattle.plans.specs.Agreement.{cm_count, leaf_there, node_there, names_there, leaves_there}

@@ -3,7 +3,7 @@
 use Rattle.std.specs.Prelude.{ℕ, ◌*◌, ◌≤◌, ◌≡◌, Bool, true, List, length, replicate}
 use Rattle.std.proofs.Math.Option.{Option, none, some}
 use Rattle.meaning.specs.Refusals.{Refusal, Answer, done, refused, ◌then◌}
-use Rattle.frames.specs.Order.{Input, blame_answer, node_limit, expression_limit}
+use Rattle.frames.specs.Order.{blame_answer, node_limit, expression_limit}
 use Rattle.frames.specs.Reading.{reading}
 use Rattle.frames.specs.declared.count.Counts.{Counts}
 use Rattle.pool.specs.Admission.{Ranked}
@@ -12,10 +12,10 @@ use Rattle.pool.specs.Tabled.{Tables, tabled}
 use Rattle.pool.specs.Ranking.{Tabling, Starts}
 use Rattle.pool.specs.Admitting.{shape_says}
 use Rattle.pool.specs.declared.admit.Shape.{Shape}
-use Rattle.plans.specs.Plan.{Whole, q2exp, is_plan}
-use Rattle.plans.specs.Columns.{record_limit, record_count, fits}
+use Rattle.plans.specs.Plan.{Whole, q2exp}
+use Rattle.plans.specs.Columns.{record_limit, record_count}
 use Rattle.plans.specs.Agreement.{names_there}
-use Rattle.map_records.specs.Mapping.{cm_limit, Mapping, mapped, quotient_dim}
+use Rattle.map_records.specs.Mapping.{cm_limit, mapped, quotient_dim}
 use Rattle.map_records.specs.Tables.{Holds, Ready}
 use Rattle.planning.specs.Planning.{all_there, plan_shape, Verdict, columned, Planned, planned, Judged, argued, Plans}
 use Rattle.planning.specs.declared.answer.Unplanned.{Unplanned}

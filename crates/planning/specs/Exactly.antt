@@ -1,18 +1,18 @@
 -- EACH REFUSAL OF A PLAN EXACTLY WHEN one of its ways is open (Ways.antt), for every slice of frames and every record; and only one answer fits.
 -- Assumes nothing.
-use Rattle.std.specs.Prelude.{ℕ, ◌<◌, ◌≤◌, ◌≡◌, Bool, cond, ◌||◌, List, [], ◌∷◌, ◌⊎◌, ◌↔◌, length, eqb}
+use Rattle.std.specs.Prelude.{ℕ, ◌≡◌, Bool, cond, ◌||◌, List, [], ◌∷◌, ◌⊎◌, ◌↔◌, length, eqb}
 use Rattle.std.proofs.Math.Path.{refl}
-use Rattle.std.proofs.Common.{sym, ◌∙◌, ap, subst, inl, inr, arith, eqb-true, eq-eqb}
+use Rattle.std.proofs.Common.{sym, ◌∙◌, ap, subst, inl, inr, eqb-true, eq-eqb}
 use Rattle.std.proofs.Math.Bool.{true, false}
 use Rattle.std.proofs.Math.Option.{Option, none, some}
 use Rattle.meaning.specs.Trees.{Member}
 use Rattle.meaning.specs.Refusals.{Refusal, number, Answer, done, refused, answer_no, ◌then◌}
-use Rattle.meaning.specs.Laws.Tests.{true-false, done-same, done-not-refused, number-not-zero}
+use Rattle.meaning.specs.Laws.Tests.{true-false, number-not-zero}
 use Rattle.frames.specs.Order.{Input}
 use Rattle.pool.specs.Pool.{Pool, node}
 use Rattle.pool.specs.Shaped.{Shaped}
-use Rattle.pool.specs.Admission.{shape, ClosedWalk, Ranked}
-use Rattle.pool.specs.Verdict.{SomeWrongCount, SomeNotThere, Ends}
+use Rattle.pool.specs.Admission.{shape}
+use Rattle.pool.specs.Verdict.{SomeWrongCount, Ends}
 use Rattle.pool.specs.Numbered.{pool_of}
 use Rattle.pool.specs.Laws.Shape.{Shape, shape_is, shaped-counts, shaped-there}
 use Rattle.pool.specs.Laws.Walks.{no-closed-walk}
@@ -24,7 +24,7 @@ use Rattle.plans.specs.Exactly.{SomeNameLost, BitsOut, CountsDiffer, exactly-mal
 use Rattle.plans.specs.Fails.{Fails, and-fails, some_fail}
 use Rattle.map_records.specs.Mapping.{Mapping, mapped, some_none}
 use Rattle.planning.specs.Planning.{argued, all_there, plan_shape, Verdict, columned, Planned, planned, Judged, Plans, Goes}
-use Rattle.planning.specs.Ways.{NoPlan, TooManyRecords, WellFormed, SomeLeafLost, SomethingLost, SomeCycle, SomeUndimensioned, Admitted, Way}
+use Rattle.planning.specs.Ways.{WellFormed, SomeLeafLost, SomethingLost, SomeCycle, SomeUndimensioned, Admitted, Way}
 use Rattle.planning.specs.Laws.Argued.{no-plan, too_many_lem, ill-formed, well_formed_lem}
 
 -- ---- tests

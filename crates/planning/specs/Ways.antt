@@ -1,7 +1,7 @@
 -- THE WAYS TO AN ANSWER: each refusal's row of document 01 for a pool as frames and a plan's record, as a person would state it, with what must not have been
 -- refused before it.
 -- Assumes nothing: these are definitions.
-use Rattle.std.specs.Prelude.{ℕ, ◌<◌, ◌≤◌, ◌≡◌, Bool, true, false, List, ◌⊎◌, length}
+use Rattle.std.specs.Prelude.{ℕ, ◌<◌, ◌≡◌, Bool, true, false, List, ◌⊎◌, length}
 use Rattle.std.proofs.Math.Option.{Option}
 use Rattle.meaning.specs.Trees.{Member}
 use Rattle.meaning.specs.Refusals.{Refusal, number, Answer, done, refused}
