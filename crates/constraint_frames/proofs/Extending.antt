@@ -1,19 +1,17 @@
 -- The pool with the constraint by its tests, over tables. Over plain variables.
 -- Assumes nothing.
-use Prim.Native.Nat.{ℕ, zero, suc, ◌+◌, ◌-◌, ◌≤◌, ◌<◌}
+use Prim.Native.Nat.{ℕ, ◌+◌, ◌≤◌, ◌<◌}
 use mathlib.Core.Path.{◌≡◌, refl, sym, ◌∙◌, ap, ap₂, subst}
-use mathlib.Core.Bool.{Bool, true, false, ◌&&◌, cond}
-use mathlib.Core.Option.{Option, none, some}
-use mathlib.Core.List.{List, [], ◌∷◌}
+use mathlib.Core.Bool.{Bool, true, false}
+use mathlib.Core.Option.{Option, none}
+use mathlib.Core.List.{List}
 use native.Mathlib.Omega.{arith}
 use lib.ListN.{length, get_or, drop}
-use lib.Dec.{ltb, leb}
+use lib.Dec.{leb}
 use borrow.Author.Tests.{lt-ltb, le-ltb, leb-true}
-use Rattle.kinds.specs.Write.{write}
 use Rattle.meaning.specs.Refusals.{Refusal, Answer, done, refused, ◌then◌}
 use Rattle.meaning.specs.Trees.{Forest}
 use Rattle.meaning.specs.Laws.Tests.{and_left, and_right, done-not-refused}
-use Rattle.frames.specs.Order.{node_limit, expression_limit}
 use Rattle.frames.specs.Written.{frames_of}
 use Rattle.pool.specs.Pool.{Pool}
 use Rattle.pool.specs.Trees.{forest}
@@ -38,7 +36,7 @@ use Rattle.pool_frames.specs.declared.pool.Written.{Written}
 use Rattle.pool_frames.specs.declared.pool.Written.TheVariants as written
 use Rattle.constraint_frames.specs.Formed.{input_of}
 use Rattle.constraint_frames.specs.Numbering.{NumbersAsked}
-use Rattle.constraint_frames.specs.Extension.{Question, asking, pool_with, bytes_of, numbers_of, Extension, extension, extending, constrained_says, room_after, Tells, AdmittedAsks}
+use Rattle.constraint_frames.specs.Extension.{Question, asking, pool_with, bytes_of, numbers_of, Extension, extension, extending, constrained_says, Tells, AdmittedAsks}
 use Rattle.constraint_frames.specs.declared.answer.Numbers.{Numbers}
 use Rattle.constraint_frames.specs.declared.answer.Constrained.{Constrained}
 use Rattle.constraint_frames.specs.declared.answer.Constrained.TheVariants as told

@@ -1,17 +1,15 @@
 -- What was read, judged: the set, the pool, and the answer to an admitted one. Over plain variables.
 -- Assumes nothing.
-use Prim.Native.Nat.{ℕ, ◌+◌, ◌≤◌, ◌<◌}
+use Prim.Native.Nat.{ℕ, ◌<◌}
 use mathlib.Core.Path.{◌≡◌, refl, sym, ◌∙◌, ap, subst}
-use mathlib.Core.Bool.{Bool, true, false, ◌&&◌}
-use mathlib.Core.Option.{Option, none, some}
-use mathlib.Core.List.{List, [], ◌∷◌}
-use native.Mathlib.Omega.{arith}
-use lib.ListN.{length, get_or, drop}
+use mathlib.Core.Bool.{Bool, true, false}
+use mathlib.Core.Option.{Option, none}
+use mathlib.Core.List.{List, []}
+use lib.ListN.{length, get_or}
 use lib.Dec.{eqb}
 use Rattle.meaning.specs.Refusals.{Refusal, Answer, done, refused, ◌then◌}
-use Rattle.meaning.specs.Trees.{Acyclic, Each}
 use Rattle.meaning.specs.Laws.Tests.{and_right, done-same, done-not-refused}
-use Rattle.frames.specs.Order.{node_limit, expression_limit, Input, blame_answer}
+use Rattle.frames.specs.Order.{Input}
 use Rattle.frames.specs.Tables as frames
 use Rattle.frames.specs.Tables.{input_in}
 use Rattle.frames.specs.Reading.{reading, held, Fills}
@@ -22,8 +20,6 @@ use Rattle.frames.specs.declared.count.Blame.{Blame}
 use Rattle.frames.specs.declared.count.Reading.{Reading}
 use Rattle.frames.specs.declared.count.Reading.TheVariants as was
 use Rattle.pool.specs.Pool.{Pool}
-use Rattle.pool.specs.Trees.{forest}
-use Rattle.pool.specs.Shaped.{Shaped}
 use Rattle.pool.specs.Verdict.{Verdict}
 use Rattle.pool.specs.Exactly.{exactly_0}
 use Rattle.pool.specs.Admitting.{Admits, Fits, verdict_says}
@@ -33,18 +29,15 @@ use Rattle.pool.specs.Tabled.{tabled}
 use Rattle.pool.specs.Ranking.{Tabling}
 use Rattle.pool.specs.Numbered.{pool_of}
 use Rattle.pool.specs.Laws.Tabled.{expression-count}
-use Rattle.search_meaning.specs.Search.{all_below}
 use Rattle.sets.specs.Members.{members}
-use Rattle.degree_search.specs.Searching.{PoolAsked}
 use Rattle.degree_search.proofs.Questions.{judged_as, each_below}
 use Rattle.constraint_pool.specs.Whole.{AllBelow}
-use Rattle.constraint_pool.specs.Added.{Wide}
 use Rattle.constraint_pool.specs.declared.judge.Columns.{Columns}
 use Rattle.pool_frames.specs.Writable.{read-formed}
 use Rattle.constraint_frames.specs.Formed.{input_of}
 use Rattle.constraint_frames.specs.Listing.{set_good}
 use Rattle.constraint_frames.specs.Backward.{back-tables, accepted, shaped-few}
-use Rattle.constraint_frames.specs.Extension.{Question, asking, Extension, extending, OrMalformed, Answers, Runs, constrained_says, Tells, Back, ConstrainIs, AdmittedAsks, ReadAsks}
+use Rattle.constraint_frames.specs.Extension.{Question, asking, Extension, extending, OrMalformed, Answers, constrained_says, Tells, Back, ConstrainIs, AdmittedAsks, ReadAsks}
 use Rattle.constraint_frames.specs.declared.answer.Constrained.{Constrained}
 use Rattle.constraint_frames.specs.declared.answer.Constrained.TheVariants as told
 

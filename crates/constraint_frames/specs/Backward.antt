@@ -1,6 +1,6 @@
 -- THE FRAMES THAT WERE WRITTEN ARE READ AS THE POOL WITH THE CONSTRAINT, which has its shape, is acyclic and stands for the extended forest.
 -- Assumes nothing.
-use Rattle.std.specs.Prelude.{ℕ, zero, suc, ◌+◌, ◌*◌, ◌≤◌, ◌<◌, ◌≡◌, refl, Bool, true, false, cond, ◌&&◌, List, [], ◌∷◌, length, get_or, drop, eqb, ltb, leb}
+use Rattle.std.specs.Prelude.{ℕ, suc, ◌≤◌, ◌<◌, ◌≡◌, refl, Bool, true, false, cond, List, [], ◌∷◌, length, get_or, drop, eqb, ltb, leb}
 use Rattle.std.proofs.Common.{sym, ◌∙◌, ap, arith, ltb-true}
 use Rattle.std.proofs.Math.Path.{subst}
 use Rattle.kinds.specs.KindBytes as kind
@@ -9,18 +9,14 @@ use Rattle.kinds.specs.Range.{within}
 use Rattle.meaning.specs.Refusals.{Refusal, Answer, done, refused, ◌then◌}
 use Rattle.meaning.specs.Trees.{Each, Acyclic}
 use Rattle.meaning.specs.Laws.Tests.{and_right, done-not-refused}
-use Rattle.frames.specs.Order.{node_limit, expression_limit, Input}
-use Rattle.frames.specs.Tables as frames
-use Rattle.frames.specs.Reading.{reading}
+use Rattle.frames.specs.Order.{node_limit, expression_limit}
 use Rattle.frames.specs.Written.{WellFormed, read_back}
 use Rattle.frames.specs.declared.node.Node.{Node}
-use Rattle.frames.specs.declared.count.Counts.{Counts}
 use Rattle.pool.specs.Pool.{Pool, node}
 use Rattle.pool.specs.Trees.{forest}
 use Rattle.pool.specs.Shaped.{Shaped}
 use Rattle.pool.specs.Verdict.{Verdict}
 use Rattle.pool.specs.Exactly.{exactly_0}
-use Rattle.pool.specs.Numbered.{pool_of}
 use Rattle.pool.specs.Tabled.{tabled}
 use Rattle.pool.specs.Ranking.{Tabling}
 use Rattle.pool.specs.Laws.Tabled.{node-count, expression-count}
@@ -35,7 +31,6 @@ use Rattle.constraint_pool.specs.Extended.{at_of}
 use Rattle.constraint_pool.specs.Added.{added_shaped, added_forest, added_acyclic}
 use Rattle.constraint_pool.proofs.Verdicts.{constraint-asks}
 use Rattle.constraint_pool.specs.declared.judge.Columns.{Columns}
-use Rattle.pool_frames.specs.Writable.{read-formed}
 use Rattle.constraint_frames.specs.Formed.{input_of, constraint-formed}
 use Rattle.constraint_frames.specs.Laws.{tree-for}
 use Rattle.constraint_frames.specs.Listing.{set_good}

@@ -1,6 +1,6 @@
 -- THE POOL WITH THE CONSTRAINT CAN BE WRITTEN as frames that are read as it, where the pool can: a copied node differs from the pool's in its children only.
 -- Assumes nothing.
-use Rattle.std.specs.Prelude.{ℕ, zero, suc, ◌+◌, ◌*◌, ◌≤◌, ◌<◌, ◌≡◌, refl, true, false, length}
+use Rattle.std.specs.Prelude.{ℕ, zero, suc, ◌+◌, ◌≤◌, ◌<◌, ◌≡◌, refl, true, length}
 use Rattle.std.proofs.Common.{sym, ◌∙◌, ap, subst, arith, not-suc-le-zero, le_of_suc-le-suc, length-append}
 use mathlib.Core.List.{List, [], ◌∷◌, ◌++◌}
 use Rattle.kinds.specs.KindBytes as kind
@@ -12,7 +12,6 @@ use Rattle.frames.specs.Nodes.{head_ok, literal_ok}
 use Rattle.frames.specs.Order.{node_limit, expression_limit, Input}
 use Rattle.frames.specs.Written.{WellNode, WellExpression, All, no_more, one_more, WellFormed}
 use Rattle.frames.specs.declared.node.Node.{Node}
-use Rattle.frames.specs.declared.rest.Expression.{Expression}
 use Rattle.pool.specs.Pool.{Pool, node, root_of}
 use Rattle.pool.specs.Trees.{Class, binary, fused, constant, negation, leafy, class, grown, tree}
 use Rattle.pool.specs.Shaped.{Shaped}

@@ -1,7 +1,7 @@
 -- ONLY ONE OUTCOME FITS what is promised of the pool with the constraint; and what is judged there is what the definition of the constraint polynomial judges.
 -- Assumes nothing.
 use Rattle.std.specs.Prelude.{ℕ, ◌+◌, ◌≡◌, refl, Bool, true, false, List, [], length, get_or, drop, leb}
-use Rattle.std.proofs.Common.{sym, ◌∙◌, ap, subst}
+use Rattle.std.proofs.Common.{sym, ◌∙◌, ap}
 use Rattle.meaning.specs.Refusals.{Refusal, Answer, done, refused, ◌then◌}
 use Rattle.meaning.specs.Trees.{Forest}
 use Rattle.meaning.specs.Generation.{State}
@@ -13,7 +13,7 @@ use Rattle.pool.specs.Exactly.{one_answer}
 use Rattle.pool.specs.Numbered.{pool_of}
 use Rattle.search_meaning.specs.Search.{Choice}
 use Rattle.constraint_meaning.specs.Tree.{columns_from, constraint_tree}
-use Rattle.constraint_meaning.specs.Constraint.{Asked, Made, fits, unless, tree_for, lists_with, made_with}
+use Rattle.constraint_meaning.specs.Constraint.{Asked, fits, unless, tree_for, lists_with, made_with}
 use Rattle.constraint_pool.specs.Judging.{judged}
 use Rattle.constraint_pool.specs.declared.judge.Columns.{Columns}
 use Rattle.constraint_frames.specs.Laws.{tree-for}

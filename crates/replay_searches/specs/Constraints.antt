@@ -1,6 +1,6 @@
 -- The definition of the constraint polynomial run on stored questions, and its answers as numbers, to be compared with the original's.
 -- Assumes nothing: these are definitions.
-use Rattle.std.specs.Prelude.{ℕ, suc, ◌+◌, ◌*◌, Bool, true, ◌&&◌, List, [], ◌∷◌, ◌++◌, length}
+use Rattle.std.specs.Prelude.{ℕ, ◌+◌, ◌*◌, Bool, true, ◌&&◌, List, [], ◌∷◌, ◌++◌}
 use Rattle.std.proofs.Math.Option.{some}
 use Rattle.meaning.specs.Refusals.{number, Answer, done, refused}
 use Rattle.meaning.specs.Trees.{Lit, lit, Op, OpC, Leaf, Expr, Forest}
@@ -8,7 +8,6 @@ use Rattle.meaning.specs.Steps.{Kind, kind_no}
 use Rattle.meaning.specs.Generation.{State, start, serve}
 use Rattle.meaning.specs.Building.{after_build}
 use Rattle.replay_meaning.specs.Replay.{Command, request, build, sign_no, counted, state_numbers, segment_numbers, same}
-use Rattle.search_meaning.specs.Search.{search}
 use Rattle.constraint_meaning.specs.Tree.{Intermediate, extended}
 use Rattle.constraint_meaning.specs.Constraint.{Built, Asked, Made, constrain}
 

@@ -1,10 +1,8 @@
 -- The 256 vectors of the family small, made by tools/vectors_to_antt.py.
 -- Assumes nothing.
 use Rattle.std.specs.Prelude.{◌≡◌, refl, true, false, List, [], ◌∷◌}
-use Rattle.std.proofs.Math.Option.{none, some}
+use Rattle.std.proofs.Math.Option.{none}
 use Rattle.meaning.specs.Trees.{lit, cm, const, q, public, challenge, eval, x_div_x_sub_xi, x_div_x_sub_w_xi, plain_x, add, sub, mul, addc, mulc, cell, exp, number, flat, x, leaf, bin, muladd, binc, neg}
-use Rattle.meaning.specs.Steps.{Zi, tree1, tree2, tree3, tree4, Z, Kind}
-use Rattle.meaning.specs.Generation.{result}
 use Rattle.replay_meaning.specs.Replay.{Vector, vector, ask, build, expression, agree}
 
 unfoldable pub vectors : List Vector

@@ -1,7 +1,7 @@
 -- The 48 vectors of searches of the family limit, made by tools/searches_to_antt.py.
 -- Assumes nothing.
 use Rattle.std.specs.Prelude.{◌≡◌, refl, true, false, List, [], ◌∷◌}
-use Rattle.meaning.specs.Trees.{lit, cm, const, q, public, challenge, eval, x_div_x_sub_xi, x_div_x_sub_w_xi, plain_x, add, sub, mul, addc, mulc, cell, exp, number, flat, x, leaf, bin, muladd, binc, neg}
+use Rattle.meaning.specs.Trees.{lit, cm, q, challenge, plain_x, add, mul, addc, mulc, cell, exp, number, flat, x, leaf, bin, binc}
 use Rattle.search_meaning.specs.Degrees.{full_table}
 use Rattle.search_meaning.specs.Search.{search}
 use Rattle.replay_meaning.specs.Replay.{expression}
