@@ -20,7 +20,7 @@ pub struct Counts {
 }
 
 // Who is to blame for a refusal.
-#[derive(Drop)]
+#[derive(Clone, Copy)]
 pub enum Blame {
     Node(usize),
     Nothing,

@@ -1,7 +1,7 @@
 -- The node that an answer blames: none where it is done.
 -- Assumes nothing: these are definitions.
 use Rattle.std.specs.Prelude.{ℕ}
-use Rattle.std.proofs.Math.Option.{Option, some, none}
+use Rattle.std.proofs.Math.Option.{Option, none}
 use Rattle.meaning.specs.Refusals.{Answer, done, refused}
 use Rattle.requests.specs.Whole.{Totals}
 

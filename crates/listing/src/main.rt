@@ -1,5 +1,7 @@
 // The list of the program `steps` as a person reads it: the same frames on standard input, and on standard output numbered steps in infix, each block
 // below its expression; or the refusal as a sentence. A viewer: what it shows is the proved list, how it shows it is held to stored outputs.
+#![tactic(auto)]
+
 mod blame;
 mod print;
 
@@ -29,6 +31,7 @@ const LIST_SIZE: usize = 8192 * STEP_SIZE;
 const SENTENCE_ROOM: usize = 512;
 
 fn print_list(
+    rt: &impl Print,
     nodes: &[u64; NODE_WORDS],
     literals: &[u64; NODE_LIMIT],
     expressions: &[u64; EXPRESSION_LIMIT],
@@ -40,6 +43,7 @@ fn print_list(
     let mut page = [0u8; PAGE_SIZE];
     let opened = put_opening(&mut page, 0);
     let shown = print_blocks(
+        rt,
         nodes,
         literals,
         expressions,
@@ -49,17 +53,18 @@ fn print_list(
         s.steps,
     );
     let used = put_totals(&mut page, shown, s.steps, s.counter);
-    flush(&page, used);
+    flush(rt, &page, used);
 }
 
-fn print_refusal(number: u8, blame: Blame) {
+fn print_refusal(rt: &impl Print, number: u8, blame: Blame) {
     let mut page = [0u8; SENTENCE_ROOM];
     let used = put_refusal(&mut page, 0, number, blame);
-    flush(&page, used);
+    flush(rt, &page, used);
 }
 
 // The answer to a text that was fed to its end.
 fn answer(
+    rt: &impl Print,
     p: Place,
     line: &[u8],
     nodes: &mut [u64; NODE_WORDS],
@@ -73,28 +78,30 @@ fn answer(
     let r = conclude(p, line, nodes, literals, expressions, requests, &mut list);
     let s = shown_outcome(r);
     if s.refusal != NONE {
-        print_refusal(s.refusal, blame_of(r));
+        print_refusal(rt, s.refusal, blame_of(r));
         return;
     }
-    print_list(nodes, literals, expressions, &list, s);
+    print_list(rt, nodes, literals, expressions, &list, s);
 }
 
-fn main() {
+fn main(rt: HostRuntime) {
     let mut nodes = [0u64; NODE_WORDS];
     let mut literals = [0u64; NODE_LIMIT];
     let mut expressions = [0u64; EXPRESSION_LIMIT];
     let mut requests = [0u64; REQUEST_LIMIT];
     let mut line = [0u8; LINE_ROOM];
     match read_all(
+        &mut rt.stdin(),
         &mut line,
         &mut nodes,
         &mut literals,
         &mut expressions,
         &mut requests,
     ) {
-        Feeding::Malformed(b) => print_refusal(MALFORMED, b),
-        Feeding::Full(b) => print_refusal(FULL, b),
+        Feeding::Malformed(b) => print_refusal(&rt, MALFORMED, b),
+        Feeding::Full(b) => print_refusal(&rt, FULL, b),
         Feeding::Fed(p) => answer(
+            &rt,
             p,
             &line,
             &mut nodes,

@@ -24,12 +24,12 @@ const FILL: usize = 32768;
 pub const PAGE_SIZE: usize = FILL + ROOM;
 
 // Writes the page where the next text might not fit.
-fn make_room(page: &[u8], used: usize) -> usize
+fn make_room(rt: &impl Print, page: &[u8], used: usize) -> usize
     requires { used ≤ length page.now }
     ensures { (result ≤ used) × (result ≤ 32768) }
 {
     if FILL < used {
-        flush(page, used);
+        flush(rt, page, used);
         return 0;
     }
     used
@@ -37,6 +37,7 @@ fn make_room(page: &[u8], used: usize) -> usize
 
 // The steps from one up to another, numbered from 1.
 fn print_steps(
+    rt: &impl Print,
     nodes: &[u64; NODE_WORDS],
     literals: &[u64; NODE_LIMIT],
     list: &[u8],
@@ -51,7 +52,7 @@ fn print_steps(
     let mut at = used;
     let mut k = from;
     while k < end {
-        let line = make_room(page, at);
+        let line = make_room(rt, page, at);
         at = put_step(nodes, literals, page, line, k + 1, nth_step(list, k));
         k += 1;
     }
@@ -60,6 +61,7 @@ fn print_steps(
 
 // The first `steps` steps of a list, in blocks. Each is looked at twice: for the end of its block, and for its line.
 pub fn print_blocks(
+    rt: &impl Print,
     nodes: &[u64; NODE_WORDS],
     literals: &[u64; NODE_LIMIT],
     expressions: &[u64; EXPRESSION_LIMIT],
@@ -76,7 +78,7 @@ pub fn print_blocks(
     while from < steps {
         let last = block_end(list, from, steps);
         let end = last + 1;
-        let head = make_room(page, at);
+        let head = make_room(rt, page, at);
         let below = put_head(
             nodes,
             literals,
@@ -85,7 +87,7 @@ pub fn print_blocks(
             head,
             nth_step(list, last).dest,
         );
-        at = print_steps(nodes, literals, list, page, below, from, end);
+        at = print_steps(rt, nodes, literals, list, page, below, from, end);
         from = end;
     }
     at

@@ -8,7 +8,7 @@ use frames::tables::NODE_WORDS;
 use frames::text::fill_text;
 
 // A refusal while reading, or what comes of what was read.
-#[derive(Drop)]
+#[derive(Clone, Copy)]
 pub enum Outcome {
     Malformed(Blame),
     Limit(Blame),

@@ -9,7 +9,7 @@ use pool::admit::{Verdict, admit};
 use starkinfo_codegen::order::JOB_LIMIT;
 
 // How many steps and temporaries there are, or the refusal with the node to blame; a root or a request's expression that is not there has none.
-#[derive(Drop)]
+#[derive(Clone, Copy)]
 pub enum Whole {
     ChildCount(usize),
     NotThere(usize),

@@ -1,13 +1,13 @@
 -- A line that is put fits its room. No word of the code.
 -- Assumes nothing.
 use Prim.Native.Nat.{ℕ, ◌*◌, ◌≤◌}
-use mathlib.Core.Path.{◌≡◌, refl, sym, ◌∙◌, ap, subst}
+use mathlib.Core.Path.{◌≡◌, sym, ◌∙◌, ap, subst}
 use mathlib.Core.Bool.{Bool, true, false, cond}
 use mathlib.Core.List.{List}
 use native.Mathlib.Omega.{arith}
 use lib.ListN.{length}
 use lib.Dec.{eqb, ltb}
-use Rattle.kinds.specs.Write.{write, write-length}
+use Rattle.kinds.specs.Write.{write-length}
 use Rattle.kinds.specs.Steps.{step_size, step_at}
 use Rattle.output.specs.Output.{counter_line, refusal_line}
 use Rattle.output.specs.Records.{record_line, PutsLine}

@@ -1,11 +1,13 @@
 // The program of document 01: a pool and its requests as lower-case hexadecimal on standard input, one frame a line; on standard output the first
 // list, one step a line, and the temporary counter, or a refusal alone.
+#![tactic(auto)]
+
 ghost use Rattle.std.specs.Prelude.{length};
 ghost use Rattle.frames.specs.Tables.{tables};
 ghost use Rattle.feed.specs.Feeding.{FedAsked};
 ghost use Rattle.transcript.specs.Lines.{LineAsked};
 
-use console::page::{flush, put};
+use console::page::{PAGE_SIZE, flush, put};
 use console::read::read_all;
 use feed::feed::{Feeding, LINE_ROOM, Place};
 use frames::count::{EXPRESSION_LIMIT, NODE_LIMIT, REQUEST_LIMIT};
@@ -19,30 +21,37 @@ use transcript::lines::{Shown, output_line, shown_outcome};
 // Document 01's room, which always suffices.
 const LIST_SIZE: usize = 8192 * STEP_SIZE;
 
-fn print_lines(nodes: &[u64; NODE_WORDS], literals: &[u64; NODE_LIMIT], list: &[u8], s: Shown)
+fn print_lines(
+    rt: &impl Print,
+    nodes: &[u64; NODE_WORDS],
+    literals: &[u64; NODE_LIMIT],
+    list: &[u8],
+    s: Shown,
+)
     requires { LineAsked s (length list.now) }
 {
-    let mut page = io::large_buffer();
+    let mut page = [0u8; PAGE_SIZE];
     let mut line = [0u8; LINE_SIZE];
     let mut used: usize = 0;
     let mut k: usize = 0;
     while k <= s.steps {
         let n = output_line(nodes, literals, list, s, k, &mut line);
-        used = put(&mut page, used, &line, n);
+        used = put(rt, &mut page, used, &line, n);
         k += 1;
     }
-    flush(&page, used);
+    flush(rt, &page, used);
 }
 
 // A refusal while reading: nothing more is read.
-fn print_refusal(number: u8) {
+fn print_refusal(rt: &impl Print, number: u8) {
     let mut line = [0u8; LINE_SIZE];
     let n = refusal_line(number, &mut line);
-    flush(&line, n);
+    flush(rt, &line, n);
 }
 
 // The answer to a text that was fed to its end.
 fn answer(
+    rt: &impl Print,
     p: Place,
     line: &[u8],
     nodes: &mut [u64; NODE_WORDS],
@@ -54,25 +63,27 @@ fn answer(
 {
     let mut list = [0u8; LIST_SIZE];
     let r = conclude(p, line, nodes, literals, expressions, requests, &mut list);
-    print_lines(nodes, literals, &list, shown_outcome(r));
+    print_lines(rt, nodes, literals, &list, shown_outcome(r));
 }
 
-fn main() {
+fn main(rt: HostRuntime) {
     let mut nodes = [0u64; NODE_WORDS];
     let mut literals = [0u64; NODE_LIMIT];
     let mut expressions = [0u64; EXPRESSION_LIMIT];
     let mut requests = [0u64; REQUEST_LIMIT];
     let mut line = [0u8; LINE_ROOM];
     match read_all(
+        &mut rt.stdin(),
         &mut line,
         &mut nodes,
         &mut literals,
         &mut expressions,
         &mut requests,
     ) {
-        Feeding::Malformed(_) => print_refusal(MALFORMED),
-        Feeding::Full(_) => print_refusal(FULL),
+        Feeding::Malformed(_) => print_refusal(&rt, MALFORMED),
+        Feeding::Full(_) => print_refusal(&rt, FULL),
         Feeding::Fed(p) => answer(
+            &rt,
             p,
             &line,
             &mut nodes,

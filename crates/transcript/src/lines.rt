@@ -14,7 +14,7 @@ use requests::run::Outcome;
 use requests::whole::Whole;
 
 // A refusal's number, or none, and then how many steps and temporaries there are.
-#[derive(Drop)]
+#[derive(Clone, Copy)]
 pub struct Shown {
     pub refusal: u8,
     pub steps: usize,
