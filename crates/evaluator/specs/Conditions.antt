@@ -1,6 +1,6 @@
 -- THE CONDITIONS OF 1 AND 10 IN FULL: which record is malformed, which values are, and at which step a run is refused. Each is equivalent to the test of the definition.
 -- Assumes nothing.
-use Rattle.std.specs.Prelude.{ℕ, zero, suc, ◌+◌, ◌*◌, ◌%◌, ◌<◌, ◌≡◌, Bool, true, false, ◌&&◌, ◌⊎◌, ◌↔◌, length, eqb, leb}
+use Rattle.std.specs.Prelude.{ℕ, zero, suc, ◌*◌, ◌%◌, ◌<◌, ◌≡◌, Bool, true, false, ◌&&◌, ◌⊎◌, ◌↔◌, length, eqb, leb}
 use Rattle.std.proofs.Math.Path.{refl, subst}
 use Rattle.std.proofs.Common.{sym, ◌∙◌, ap, inl, inr, arith, leb-false, ne_eqb}
 use Rattle.std.proofs.Math.Option.{Option, none, some, none-ne-some}

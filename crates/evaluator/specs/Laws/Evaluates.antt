@@ -28,7 +28,6 @@ use Rattle.evaluator_cells.specs.Laws.Literals.{numbers_of, numbers-below}
 use Rattle.evaluator_run.specs.Evaluation.{Valued, well_formed, ruling}
 use Rattle.evaluator_run.specs.Computing.{ComputeAsks, ComputeGiven, computed_says}
 use Rattle.evaluator_run.specs.declared.compute.Computed.{Computed}
-use Rattle.evaluator_run.specs.declared.compute.Computed.TheVariants as computed
 use Rattle.evaluator.specs.Answer.{Judged, Evaluates, answer_says, Tells, PoolAsks, PoolEvaluated, ReadEvaluated}
 use Rattle.evaluator.specs.declared.evaluate.Evaluation.{Evaluation}
 use Rattle.evaluator.specs.declared.evaluate.Evaluation.TheVariants as answer

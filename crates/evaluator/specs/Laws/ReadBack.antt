@@ -15,7 +15,6 @@ use Rattle.kinds.specs.Range.{within}
 use Rattle.kinds.specs.Write.{write, write-is}
 use Rattle.kinds.specs.Steps.{step_size, steps_of, steps_bytes, steps-none, steps-joined, steps-bytes-length}
 use Rattle.kinds.specs.declared.reference.Reference.{Reference}
-use Rattle.kinds.specs.declared.step.Step as bytes
 use Rattle.meaning.specs.Trees.{RowKind, FlatKind, XKind, Each, up_to}
 use Rattle.meaning.specs.Steps.{BareKind, Kind, kind_no, Cell, Ref, StepOp, step_no, Step}
 use Rattle.starkinfo_codegen.specs.Encoding.{ref_of, source_of, step_record, records, records-length, encoded, encoded-length}

@@ -3,11 +3,11 @@
 use Rattle.std.specs.Prelude.{ℕ, ◌+◌, ◌<◌, ◌≤◌, ◌≡◌, refl, List, [], ◌∷◌, ◌++◌, length}
 use Rattle.std.proofs.Common.{sym, ◌∙◌, subst, arith, ltb-true}
 use Rattle.std.proofs.Math.Option.{Option, none, some}
-use Rattle.meaning.specs.Refusals.{done, ◌then◌}
+use Rattle.meaning.specs.Refusals.{done}
 use Rattle.meaning.specs.Trees.{Leaf, ◌at◌, Expr, Expression, Forest, nth, leaves, Each, Acyclic}
 use Rattle.meaning.specs.Steps.{Ref, Step, step, tmp_ref, exp_cell}
 use Rattle.meaning.specs.Emission.{leaf_ref, Own, Emitted, Settled, settle, settled, emit, root_step}
-use Rattle.meaning.specs.Order.{Marks, Job, Asked, asked, there, unmarked}
+use Rattle.meaning.specs.Order.{Marks, marking, Job, Asked, asked, there, unmarked}
 use Rattle.meaning.specs.Generation.{Block, State, start, Request, make_one, make, adding, serve_all}
 use Rattle.meaning.specs.Building.{Segment, every, segment, whole}
 use Rattle.meaning.specs.Demand3.{NoResult}
@@ -102,7 +102,7 @@ module _ (E : Forest) where
 
   fine_in : (m : Marks) (js : List Job) → AllFine 2 E m js → Each JobIn js
   fine_in m [] h = tt
-  fine_in m (j ∷ js) h = (record { expression = h.0.expression; found = h.0.found; reads = h.0.rows_there }, fine_in _ js h.1)
+  fine_in m (j ∷ js) h = (record { expression = h.0.expression; found = h.0.found; reads = h.0.rows_there }, fine_in (marking m j.expression j.row) js h.1)
 
   all_in : (qs : List Request) (m : Marks) (a : Asked) → ask_all 2 E qs m ≡ done a → Each JobIn a.jobs
   all_in [] m a h = subst (λ (z : Asked). Each JobIn z.jobs) (done-same _ a h) tt
