@@ -4,7 +4,7 @@ use Prim.Native.Nat.{ℕ, zero, suc}
 use Rattle.std.specs.Prelude.{◌≡◌, Bool, true, false, ◌⊎◌, ◌↔◌, ltb, leb}
 use Rattle.std.proofs.Math.Path.{refl, sym, ap}
 use Rattle.std.proofs.Common.{◌∙◌, inl, inr, arith}
-use mathlib.Core.List.{List, [], ◌∷◌, ◌++◌}
+use mathlib.Core.List.{List, [], ◌∷◌}
 use borrow.Author.Tests.{lt-ltb, le-leb, leb-true}
 use Rattle.kinds.specs.StepOps.{is_step, sources_needed}
 use Rattle.kinds.specs.declared.reference.Reference.{Reference}

@@ -2,19 +2,19 @@
 -- Assumes nothing.
 use Rattle.std.specs.Prelude.{ℕ, ◌≡◌, refl, Bool, true, false, List, ◌⊎◌, ◌↔◌, length}
 use Rattle.std.proofs.Common.{◌∙◌, ap, subst, arith}
-use Rattle.meaning.specs.Refusals.{Answer, done, answer_no}
+use Rattle.meaning.specs.Refusals.{done, answer_no}
 use Rattle.frames.specs.Reading.{reading}
 use Rattle.pool.specs.Numbered.{pool_of}
 use Rattle.lent_lists.specs.Verdicts.{Verdict, fine, not_there, no_rule, full, verdict_no}
 use Rattle.fixing.specs.ProverCode.{prover_verdict}
 use Rattle.fixing.specs.Conditions.{Refused10, Refused3, Refused9, Accepted}
 use Rattle.fixing.specs.Exactly.{prover_10, prover_3, prover_9, prover_0}
-use Rattle.plans.specs.Agreement.{cm_count, counts_agree}
+use Rattle.plans.specs.Agreement.{cm_count}
 use Rattle.map_records.specs.Mapping.{mapped}
 use Rattle.plan_tables.specs.Sizes.{cm-n-size, cm_2ns_size}
 use Rattle.planning.specs.Planning.{Planned, Plans}
 use Rattle.planning.specs.Ways.{Way}
-use Rattle.plan_walks.specs.Walks.{good_segment, Walked, walk_says}
+use Rattle.plan_walks.specs.Walks.{good_segment, walk_says}
 use Rattle.plan_walks.specs.Cms.{cms_of}
 use Rattle.plan_walks.specs.Fix.{is_n, rules_in, fix_with, fix_by, FixIs}
 use Rattle.plan_walks.specs.declared.walk.Walk.{Walk}

@@ -2,8 +2,8 @@
 -- Assumes nothing.
 use Rattle.std.specs.Prelude.{ℕ, ◌≡◌, refl, Bool, true, false, cond, List}
 use Rattle.std.proofs.Common.{sym, ◌∙◌, ap}
-use Rattle.std.proofs.Math.Option.{Option, none}
-use Rattle.meaning.specs.Refusals.{Refusal, Answer, done, refused, ◌then◌}
+use Rattle.std.proofs.Math.Option.{none}
+use Rattle.meaning.specs.Refusals.{Refusal, Answer, done, refused}
 use Rattle.meaning.specs.Laws.Tests.{then-done, done-same, done-not-refused}
 use Rattle.frames.specs.Order.{Input}
 use Rattle.pool.specs.Pool.{Pool}

@@ -6,7 +6,7 @@ use Rattle.meaning.specs.Refusals.{Answer, done, refused, answer_no, ◌then◌}
 use Rattle.frames.specs.Reading.{reading}
 use Rattle.frames.specs.Exactly.{no_other}
 use Rattle.lent_lists.specs.Verdicts.{Verdict, fine, malformed, not_there, no_rule, full, verdict_no}
-use Rattle.planning.specs.Planning.{Planned, Plans, Goes}
+use Rattle.planning.specs.Planning.{Planned, Plans}
 use Rattle.planning.specs.Ways.{Way}
 use Rattle.planning.specs.Exactly.{Follows, exactly-gone}
 use Rattle.plan_walks.specs.Walks.{Walked, ruled, walk_says, WalkIs}

@@ -2,7 +2,7 @@
 -- tree.
 -- Assumes nothing.
 use Rattle.std.specs.Prelude.{ℕ, ◌≤◌, ◌<◌, ◌≡◌, refl, Bool, List, ◌⊎◌, ◌↔◌, length, get_or}
-use Rattle.std.proofs.Common.{sym, ◌∙◌, ap, subst, inl, inr, arith}
+use Rattle.std.proofs.Common.{sym, subst, inl, inr, arith}
 use Rattle.kinds.specs.KindBytes as kind
 use Rattle.kinds.specs.declared.reference.Reference.{Reference}
 use Rattle.meaning.specs.Refusals.{done, answer_no}
@@ -15,7 +15,6 @@ use Rattle.query_fixing.specs.QueryConditions.{NoTree, Lost, Refused3, Refused10
 use Rattle.query_fixing.specs.QueryExactly as walk
 use Rattle.query_fixing.specs.QueryExactly.{refused_3_so, refused_10_so, accepted_so}
 use Rattle.plans.specs.Agreement.{cm_count}
-use Rattle.plans.specs.Columns.{record_limit}
 use Rattle.plans.specs.Passed.{few-records}
 use Rattle.map_records.specs.Mapping.{mapped}
 use Rattle.map_records.specs.Sizes.{mapped-size}

@@ -11,7 +11,7 @@ use Rattle.pool.specs.Trees.{tree}
 use Rattle.exp_dims.specs.Dimension.{through, leaf_dim, tree_dim, dim_below, exp_dim}
 use Rattle.plans.specs.Plan.{cm1, cm2, cm3, q_deg, c_exp, pu_count, im_count, product_count, f_of, t_of, num_of, den_of, im_of, q2exp}
 use Rattle.plans.specs.Columns.{among, is_im}
-use Rattle.map_records.specs.Mapping.{cm_limit, Mapping, pol, pair, grown, column, dim_in, fresh, cm1s, lookup_dim, h_at, lookup, lookups, z_at, products, intermediates, quotient_dim, quotients, mapped}
+use Rattle.map_records.specs.Mapping.{cm_limit, Mapping, pol, pair, grown, column, dim_in, cm1s, lookup_dim, h_at, lookup, lookups, z_at, products, intermediates, quotient_dim, quotients, mapped}
 use Rattle.map_records.specs.Sizes.{Even, snoc-size}
 
 -- each number of a list, and what stands past its end

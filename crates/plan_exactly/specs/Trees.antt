@@ -7,7 +7,7 @@ use native.Mathlib.Omega.{arith}
 use Rattle.std.proofs.Math.ListN.{length, get_or-eq_default}
 use Rattle.kinds.specs.KindBytes as kind
 use Rattle.kinds.specs.Range.{within, within-true}
-use Rattle.sections.specs.Sums.{sum, each, sum-small, each-length, each_at}
+use Rattle.sections.specs.Sums.{sum-small, each-length, each_at}
 use Rattle.sections.specs.Sections.{placed, dim_at, sum_over, comes_before, position_of, positions_from}
 use Rattle.query_fixing.specs.QueryCode.{tree_kind}
 use Rattle.map_records.specs.Mapping.{Mapping, cm1_n, cm4_n, twin}

@@ -2,7 +2,7 @@
 -- Assumes nothing.
 use Prim.Native.Nat.{ℕ, ◌≤◌}
 use mathlib.Core.Path.{◌≡◌, refl, sym, ◌∙◌, ap, subst}
-use mathlib.Core.Bool.{cond, false}
+use mathlib.Core.Bool.{cond}
 use mathlib.Core.Option.{none}
 use mathlib.Core.List.{List}
 use native.Mathlib.Omega.{arith}
@@ -10,9 +10,6 @@ use lib.ListN.{length, take}
 use lib.Dec.{eqb}
 use Rattle.meaning.specs.Refusals.{Refusal, number, Answer, done, refused, answer_no, ◌then◌}
 use Rattle.meaning.specs.Laws.Tests.{number-not-zero}
-use Rattle.pool.specs.Tabled.{tabled}
-use Rattle.plans.specs.Columns.{record_limit}
-use Rattle.map_records.specs.Mapping.{mapped}
 use Rattle.step_dimensions.specs.StepDimensions.{Given}
 use Rattle.step_dimensions.specs.Answers.{lent}
 use Rattle.dimensions.specs.Dimensions.{dimensions}
@@ -21,7 +18,7 @@ use Rattle.dimensions.specs.Answers.{DimensionedIs, dimensioned_no}
 use Rattle.dimensions.specs.declared.set_code_dimensions.Dimensioned.{Dimensioned}
 use Rattle.dimensions.specs.declared.set_code_dimensions.Dimensioned.TheVariants as dimensioned
 use Rattle.plan_walks.specs.Walks.{Walked, walked, walk_says, lists_after, Does}
-use Rattle.plan_walks.specs.Standing.{Standing, tables, planned_in, Tabled}
+use Rattle.plan_walks.specs.Standing.{Standing, planned_in}
 use Rattle.plan_walks.specs.Dimension.{given_by, unblamed, dimension_with, dimension_by, dimensioned_says}
 use Rattle.plan_walks.specs.declared.walk.Walk.{Walk}
 use Rattle.plan_walks.proofs.Fixes.{records-few}

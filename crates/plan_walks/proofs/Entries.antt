@@ -2,11 +2,10 @@
 -- Assumes nothing.
 use Prim.Native.Nat.{ℕ, ◌≤◌, ◌<◌}
 use mathlib.Core.Path.{◌≡◌, refl, sym, ◌∙◌, ap, subst}
-use mathlib.Core.Bool.{Bool, true, false, ◌&&◌}
+use mathlib.Core.Bool.{Bool, false}
 use mathlib.Core.List.{List, ◌++◌}
 use lib.ListN.{length, take, replicate}
 use native.Mathlib.Omega.{arith}
-use lib.Dec.{leb}
 use borrow.Author.Tests.{le-leb, lt-leb}
 use Rattle.meaning.specs.Refusals.{Answer, done, ◌then◌}
 use Rattle.pool.specs.Tabled.{tabled}
@@ -26,7 +25,7 @@ use Rattle.planning.specs.declared.answer.Unplanned.{Unplanned}
 use Rattle.planning.specs.declared.answer.Plan.{Plan}
 use Rattle.planning.specs.declared.answer.Planning.{Planning}
 use Rattle.planning.specs.declared.answer.Planning.TheVariants as planning
-use Rattle.plan_walks.specs.Walks.{last_domain, good_segment, Walked, walk_says, lists_after, Does, WalkIs}
+use Rattle.plan_walks.specs.Walks.{last_domain, good_segment, Walked, lists_after, Does, WalkIs}
 use Rattle.plan_walks.specs.Standing.{Standing, planned_in, Tabled}
 use Rattle.plan_walks.specs.declared.walk.Walk.{Walk}
 use Rattle.plan_walks.specs.declared.walk.Walk.TheVariants as walk

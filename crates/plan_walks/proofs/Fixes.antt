@@ -7,7 +7,7 @@ use mathlib.Core.List.{List, [], ◌∷◌}
 use native.Mathlib.Omega.{arith}
 use lib.ListN.{length, take, drop, replicate}
 use lib.Seq.{length-take-le}
-use Rattle.meaning.specs.Refusals.{Answer, done, ◌then◌}
+use Rattle.meaning.specs.Refusals.{done, ◌then◌}
 use Rattle.frames.specs.Order.{expression_limit}
 use Rattle.pool.specs.Entries.{entries_in}
 use Rattle.pool.specs.Tabled.{tabled}

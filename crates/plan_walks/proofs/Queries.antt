@@ -2,20 +2,17 @@
 -- Assumes nothing.
 use Prim.Native.Nat.{ℕ, zero, suc, ◌+◌, ◌≤◌}
 use mathlib.Core.Path.{◌≡◌, refl, sym, ◌∙◌, ap, subst}
-use mathlib.Core.Bool.{true, ◌&&◌, cond}
+use mathlib.Core.Bool.{true}
 use mathlib.Core.List.{List, [], ◌∷◌, ◌++◌}
 use native.Mathlib.Omega.{arith}
 use native.Mathlib.Nat.{not-suc-le-zero, le_of_suc-le-suc}
 use lib.ListN.{length, take, replicate, length-replicate}
 use lib.Seq.{take_all, take_at, length-take-le}
-use lib.Dec.{eqb, leb}
 use borrow.Author.Tests.{eq-eqb, le-leb}
 use Rattle.meaning.specs.Refusals.{Answer, done, ◌then◌}
 use Rattle.pool.specs.Tabled.{tabled}
-use Rattle.plans.specs.Columns.{record_limit, record_count}
-use Rattle.map_records.specs.Mapping.{cm1_n, cm4_n, twin, mapped}
-use Rattle.map_records.specs.Sizes.{mapped-size}
-use Rattle.sections.specs.Sections as sections
+use Rattle.plans.specs.Columns.{record_limit}
+use Rattle.map_records.specs.Mapping.{cm1_n, cm4_n, twin}
 use Rattle.sections.specs.Sections.{known, well_formed, mapping, positions_from, widths, width_count}
 use Rattle.sections.specs.Answer.{MappedIs, positions_after}
 use Rattle.sections.specs.declared.map_section.Mapped.{Mapped}
@@ -28,9 +25,8 @@ use Rattle.lent_lists.specs.Verdicts.{Verdict, fine, malformed, not_there, no_ru
 use Rattle.query_fixing.specs.QueryCode.{query_verdict, queried_after}
 use Rattle.query_fixing.specs.QueryAnswers.{QueryCodeIs, Says, queried_says}
 use Rattle.query_fixing.specs.declared.fix_query_code.Queried.{Queried}
-use Rattle.query_fixing.specs.declared.fix_query_code.Queried.TheVariants as queried
 use Rattle.plan_walks.specs.Walks.{walked, ruled, walk_says, lists_after, Does}
-use Rattle.plan_walks.specs.Standing.{Standing, tables, planned_in, Tabled}
+use Rattle.plan_walks.specs.Standing.{Standing, tables, planned_in}
 use Rattle.plan_walks.specs.Query.{query_with, query_by, Placed}
 use Rattle.plan_walks.specs.declared.walk.Walk.{Walk}
 use Rattle.plan_walks.proofs.Fixes.{records-few, sections_are}

@@ -1,7 +1,7 @@
 -- THE DIMENSIONS OF A SEGMENT'S LISTS BY A PLAN: the records' dimensions, the record of each cm number in "2ns" and the record numbers of q that a plan gives to
 -- `set_code_dimensions`.
 -- Assumes nothing: these are definitions.
-use Rattle.std.specs.Prelude.{ℕ, ◌≤◌, ◌≡◌, List, [], ◌∷◌, length, take}
+use Rattle.std.specs.Prelude.{ℕ, ◌≡◌, List, [], ◌∷◌}
 use Rattle.std.proofs.Math.Option.{none}
 use Rattle.meaning.specs.Refusals.{Refusal, Answer, done, refused, ◌then◌}
 use Rattle.lists.specs.Records.{good_list}

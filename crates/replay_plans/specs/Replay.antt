@@ -1,7 +1,7 @@
 -- The definitions of plans, of their records and of sections run on stored questions, and their answers as numbers, to be compared with the original's.
 -- Assumes nothing: these are definitions.
 use Rattle.std.specs.Prelude.{ℕ, suc, Bool, true, false, ◌&&◌, cond, List, [], ◌∷◌, ◌++◌, length, take, eqb}
-use Rattle.meaning.specs.Refusals.{Refusal, number, Answer, done, refused, answer_no}
+use Rattle.meaning.specs.Refusals.{Refusal, number, answer_no}
 use Rattle.frames.specs.declared.node.Node.{Node}
 use Rattle.frames.specs.declared.rest.Expression.{Expression}
 use Rattle.pool.specs.Pool.{Pool}

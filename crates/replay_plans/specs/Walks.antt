@@ -10,11 +10,11 @@ use Rattle.pool.specs.Pool.{Pool}
 use Rattle.plans.specs.Plan.{qs}
 use Rattle.map_records.specs.Mapping.{Mapping, mapped}
 use Rattle.plan_tables.specs.Tables.{cm_n, cm2ns, trees, rules}
-use Rattle.lent_lists.specs.Verdicts.{Verdict, fine, verdict_no}
+use Rattle.lent_lists.specs.Verdicts.{verdict_no}
 use Rattle.lent_lists.specs.Records.{record_by}
 use Rattle.lent_lists.specs.Records as lists
 use Rattle.lent_lists.specs.Walks.{walked, record_verdict}
-use Rattle.fixed_meaning.specs.Fixing.{Fixing, begin}
+use Rattle.fixed_meaning.specs.Fixing.{begin}
 use Rattle.fixing.specs.ProverCode.{last_counter, plan_of, ruled_reference, meet_records, fix_record}
 use Rattle.query_fixing.specs.QueryCode.{treed_reference, tree_reference}
 use Rattle.step_dimensions.specs.StepDimensions.{Given, unwritten}

@@ -1,12 +1,12 @@
 -- A record whose references are rewritten stays well formed where each of them does. Assumes nothing.
 use Prim.Native.Nat.{ℕ, zero, suc, ◌%◌}
-use Rattle.std.specs.Prelude.{◌≡◌, Bool, false, ◌&&◌, length, eqb, leb, ltb}
+use Rattle.std.specs.Prelude.{◌≡◌, Bool, ◌&&◌, length, eqb, leb, ltb}
 use Rattle.std.proofs.Math.Path.{refl}
-use Rattle.std.proofs.Common.{sym, ◌∙◌, ap, arith}
+use Rattle.std.proofs.Common.{◌∙◌, ap, arith}
 use Rattle.std.proofs.Math.Bool.{true}
 use mathlib.Core.List.{List, [], ◌∷◌}
 use borrow.Author.Tests.{leb-true}
-use Rattle.kinds.specs.Write.{write, write-length}
+use Rattle.kinds.specs.Write.{write-length}
 use Rattle.kinds.specs.Steps.{step_size, steps_bytes}
 use Rattle.kinds.specs.declared.reference.Reference.{Reference}
 use Rattle.kinds.specs.declared.step.Step.{Step}

@@ -25,7 +25,7 @@ use Rattle.step_dimensions.specs.Rules.{rule_no, is_destination}
 use Rattle.step_dimensions.specs.StepDimensions.{through, source_dim, source_dims, largest, step_with, noted}
 use Rattle.dimensions.specs.Dimensions.{passed}
 use Rattle.replay_plans.specs.Replay.{node, root}
-use Rattle.replay_plans.specs.Walks.{WalkVector, walk_vector, lists', ref, step, blank, fix_n, fix2ns, query, dims, dims_first, fix_dims_n, fix_dims2ns, query_dims, no_more, becomes, agree_walked}
+use Rattle.replay_plans.specs.Walks.{WalkVector, walk_vector, lists', ref, step, blank, dims, dims_first, no_more, becomes, agree_walked}
 
 unfoldable pub vectors : List WalkVector
 vectors =

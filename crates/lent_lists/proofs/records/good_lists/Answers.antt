@@ -1,6 +1,5 @@
 -- `lent_lists::records::good_lists` meets its contract.
 -- Assumes nothing.
-use borrow.Author.Tests.{not-true, not-false}
 use Rattle.lent_lists.specs.Laws.Records.{lists-first, lists-second, lists-third}
 use Rattle.lent_lists.proofs.records.good_lists.Goals as goal
 
