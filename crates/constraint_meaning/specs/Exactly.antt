@@ -118,14 +118,15 @@ module _ (rows : ℕ) (E : Forest) (nodes : ℕ) (first second : State) (a : Ask
     abbrev lists : Answer Made
     lists = lists_with rows E nodes first second a x (columns_from a.commitments x.set) constraint_of
 
-    checked : answer ≡ (unless Refusal.full Fit then λ _. (unless Refusal.counts counted then λ _. lists))
-    checked = ap (λ s. s then λ y. made_with rows E nodes first second a y) chosen
+    -- what the answer is, given that the search accepts: each theorem below shows it for itself, so that a wrong check is refused there
+    abbrev Checked : Type 0
+    Checked = answer ≡ (unless Refusal.full Fit then λ _. (unless Refusal.counts counted then λ _. lists))
 
-    fit-checked : Fit ≡ true → answer ≡ (unless Refusal.counts counted then λ _. lists)
-    fit-checked f = checked ∙ ap (λ b. unless Refusal.full b then λ _. (unless Refusal.counts counted then λ _. lists)) f
+    fit-checked : Checked → Fit ≡ true → answer ≡ (unless Refusal.counts counted then λ _. lists)
+    fit-checked checked f = checked ∙ ap (λ b. unless Refusal.full b then λ _. (unless Refusal.counts counted then λ _. lists)) f
 
-    all-checked : Fit ≡ true → a.n_cm1 + a.n_cm2 ≤ a.commitments → answer ≡ lists
-    all-checked f c = fit-checked f ∙ ap (λ b. unless Refusal.counts b then λ _. lists) (le-leb (a.n_cm1 + a.n_cm2) a.commitments c)
+    all-checked : Checked → Fit ≡ true → a.n_cm1 + a.n_cm2 ≤ a.commitments → answer ≡ lists
+    all-checked checked f c = fit-checked checked f ∙ ap (λ b. unless Refusal.counts b then λ _. lists) (le-leb (a.n_cm1 + a.n_cm2) a.commitments c)
 
     -- one of five
     data Outcome : Type 0 where
@@ -156,13 +157,13 @@ module _ (rows : ℕ) (E : Forest) (nodes : ℕ) (first second : State) (a : Ask
           (members-there E a.limit a.identities a.vc a.n_bits a.n_bits_ext x chosen)
 
       -- both lists
-      with_lists : Fit ≡ true → a.n_cm1 + a.n_cm2 ≤ a.commitments → Outcome
-      with_lists f c =
+      with_lists : Checked → Fit ≡ true → a.n_cm1 + a.n_cm2 ≤ a.commitments → Outcome
+      with_lists checked f c =
           go (all rows pool_with pool_acyclic x.set first stepped members_in)
           (one rows pool_with pool_acyclic (length E) (marked rows x.set second) stepped-too (omega (arith, longer)))
         where
           same : answer ≡ lists
-          same = all-checked f c
+          same = all-checked checked f c
 
           built : answer_no (serve_all rows pool_with (plain_requests x.set) first) ≡ 0 → answer_no (step3 rows pool_with x.set first) ≡ 0
           built n = then-zero (serve_all rows pool_with (plain_requests x.set) first) _ 0 n (λ s. refl)
@@ -182,19 +183,19 @@ module _ (rows : ℕ) (E : Forest) (nodes : ℕ) (first second : State) (a : Ask
               then-zero (step42ns rows pool_with x.set (length E) second) _ 0
               (then-zero (serve rows pool_with (plain_request (length E)) (marked rows x.set second)) _ 0 k (λ s. refl)) (λ s4. refl)))
 
-      outcome : Outcome
-      outcome = go Fit refl counted refl
+      outcome : Checked → Outcome
+      outcome checked = go Fit refl counted refl
         where
           go : (b : Bool) → Fit ≡ b → (c : Bool) → counted ≡ c → Outcome
           go false f c k = Outcome.full f (ap answer_no (checked ∙ ap (λ z. unless Refusal.full z then λ _. (unless Refusal.counts counted then λ _. lists)) f))
           go true f false k =
               Outcome.short f (leb-false (a.n_cm1 + a.n_cm2) a.commitments k)
-              (ap answer_no (fit-checked f ∙ ap (λ z. unless Refusal.counts z then λ _. lists) k))
-          go true f true k = with_lists f (leb-true (a.n_cm1 + a.n_cm2) a.commitments k)
+              (ap answer_no (fit-checked checked f ∙ ap (λ z. unless Refusal.counts z then λ _. lists) k))
+          go true f true k = with_lists checked f (leb-true (a.n_cm1 + a.n_cm2) a.commitments k)
 
       -- 9 EXACTLY WHEN the pool with the constraint, or the number of a column, passes its limit
       pub exactly_9 : (answer_no answer ≡ 9) ↔ (Fit ≡ false)
-      exactly_9 = (to outcome, back outcome)
+      exactly_9 = (to (outcome (ap (λ s. s then λ y. made_with rows E nodes first second a y) chosen)), back (outcome (ap (λ s. s then λ y. made_with rows E nodes first second a y) chosen)))
         where
           to : Outcome → answer_no answer ≡ 9 → Fit ≡ false
           to (Outcome.full f n) h = f
@@ -212,7 +213,7 @@ module _ (rows : ℕ) (E : Forest) (nodes : ℕ) (first second : State) (a : Ask
 
       -- 11 EXACTLY WHEN they do not, and n_commitments is below n_cm1 + n_cm2
       pub exactly_11 : (answer_no answer ≡ 11) ↔ ((Fit ≡ true) × (a.commitments < a.n_cm1 + a.n_cm2))
-      exactly_11 = (to outcome, λ h. back outcome h.0 h.1)
+      exactly_11 = (to (outcome (ap (λ s. s then λ y. made_with rows E nodes first second a y) chosen)), λ h. back (outcome (ap (λ s. s then λ y. made_with rows E nodes first second a y) chosen)) h.0 h.1)
         where
           to : Outcome → answer_no answer ≡ 11 → (Fit ≡ true) × (a.commitments < a.n_cm1 + a.n_cm2)
           to (Outcome.full f n) h = absurd (omega arith)
@@ -231,7 +232,7 @@ module _ (rows : ℕ) (E : Forest) (nodes : ℕ) (first second : State) (a : Ask
       -- 5 EXACTLY WHEN neither is so, and a member or the constraint reads a row that is not there
       pub exactly_5 :
           (answer_no answer ≡ 5) ↔ ((Fit ≡ true) × (a.n_cm1 + a.n_cm2 ≤ a.commitments) × (MembersRefused ⊎ ConstraintRefused))
-      exactly_5 = (to outcome, λ h. back outcome h.0 h.1 h.2)
+      exactly_5 = (to (outcome (ap (λ s. s then λ y. made_with rows E nodes first second a y) chosen)), λ h. back (outcome (ap (λ s. s then λ y. made_with rows E nodes first second a y) chosen)) h.0 h.1 h.2)
         where
           to : Outcome → answer_no answer ≡ 5 → (Fit ≡ true) × (a.n_cm1 + a.n_cm2 ≤ a.commitments) × (MembersRefused ⊎ ConstraintRefused)
           to (Outcome.full f n) h = absurd (omega arith)
@@ -250,7 +251,7 @@ module _ (rows : ℕ) (E : Forest) (nodes : ℕ) (first second : State) (a : Ask
 
       -- 0 otherwise, and no other number
       pub only_these : (answer_no answer ≡ 0) ⊎ ((answer_no answer ≡ 5) ⊎ ((answer_no answer ≡ 9) ⊎ (answer_no answer ≡ 11)))
-      only_these = go outcome
+      only_these = go (outcome (ap (λ s. s then λ y. made_with rows E nodes first second a y) chosen))
         where
           go : Outcome → (answer_no answer ≡ 0) ⊎ ((answer_no answer ≡ 5) ⊎ ((answer_no answer ≡ 9) ⊎ (answer_no answer ≡ 11)))
           go (Outcome.full f n) = inr (inr (inl n))
