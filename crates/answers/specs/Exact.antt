@@ -8,9 +8,9 @@ use Rattle.meaning.specs.Trees.{Forest, Acyclic}
 use Rattle.meaning.specs.Running.{empty}
 use Rattle.meaning.specs.Generation.{Request, start, serve_all}
 use Rattle.meaning.specs.Building.{Segment, whole}
-use Rattle.meaning.specs.Exactly.{all_3, all_5, plain-only, whole-number}
-use Rattle.meaning.specs.Laws.Standing.{start-stepped}
-use Rattle.meaning.specs.Laws.Tests.{true-false, number-not-zero, done-same, then-done}
+use Rattle.meaning.proofs.Exactly.{all_3, all_5, plain-only, whole-number}
+use Rattle.meaning.proofs.Laws.Standing.{start-stepped}
+use Rattle.meaning.proofs.Laws.Tests.{true-false, number-not-zero, done-same, then-done}
 use Rattle.frames.specs.Order.{Input}
 use Rattle.frames.specs.Reading.{reading}
 use Rattle.frames.specs.Exactly as frames
@@ -43,7 +43,7 @@ use Rattle.evaluator.specs.Answer.{Evaluates}
 use Rattle.evaluator.specs.Conditions.{ill-formed, refused-at}
 use Rattle.evaluator.specs.Exactly as evaluates
 use Rattle.search_meaning.specs.Search.{Choice}
-use Rattle.search_meaning.specs.SearchCases as search
+use Rattle.search_meaning.proofs.SearchCases as search
 use Rattle.degree_search.specs.Searching.{asking, searched, Runs}
 use Rattle.answers.specs.Ways as way
 use Rattle.answers.specs.Ways.{OfFrames, OfPool, asked_for}

@@ -4,7 +4,7 @@ use Rattle.std.specs.Prelude.{ℕ, ◌≡◌, refl, Bool, cond, ◌&&◌, List, 
 use Rattle.std.proofs.Common.{sym, ◌∙◌, ap, subst, inl, inr, arith, leb-true, leb-false}
 use Rattle.std.proofs.Math.Bool.{true, false}
 use Rattle.meaning.specs.Refusals.{number, Answer, done, refused, ◌then◌, answer_no}
-use Rattle.meaning.specs.Laws.Tests.{number-not-zero, and_right}
+use Rattle.meaning.proofs.Laws.Tests.{number-not-zero, and_right}
 use Rattle.kinds.specs.KindBytes as kind
 use Rattle.kinds.specs.declared.reference.Reference.{Reference}
 use Rattle.frames.specs.Order.{Input}

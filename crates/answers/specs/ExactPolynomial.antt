@@ -10,8 +10,8 @@ use Rattle.meaning.specs.Order.{Marks}
 use Rattle.meaning.specs.Generation.{Request, serve_all}
 use Rattle.meaning.specs.Demand3.{NoResult}
 use Rattle.meaning.specs.Conditions.{Stepped, Refused3, FirstRefused}
-use Rattle.meaning.specs.Exactly.{all_3, all_5, plain-only}
-use Rattle.meaning.specs.Laws.Tests.{true-false, number-not-zero, each_right, each_map}
+use Rattle.meaning.proofs.Exactly.{all_3, all_5, plain-only}
+use Rattle.meaning.proofs.Laws.Tests.{true-false, number-not-zero, each_right, each_map}
 use Rattle.kinds.specs.Steps.{step_size, steps-length}
 use Rattle.frames.specs.Order.{Input}
 use Rattle.frames.specs.Reading.{reading}
@@ -28,7 +28,7 @@ use Rattle.context.specs.Held.{words-at}
 use Rattle.codegen.specs.Said.{Said, said, serve_said}
 use Rattle.codegen.specs.Shadows.{Alikes, shadow, same_number}
 use Rattle.search_meaning.specs.Search.{Choice, search}
-use Rattle.search_meaning.specs.SearchCases as cases
+use Rattle.search_meaning.proofs.SearchCases as cases
 use Rattle.constraint_meaning.specs.Constraint.{plain_requests, unless}
 use Rattle.constraint_meaning.specs.Ranks.{length-extended}
 use Rattle.constraint_meaning.specs.Members.{members-there}

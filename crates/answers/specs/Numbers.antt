@@ -4,7 +4,7 @@ use Rattle.std.specs.Prelude.{ℕ, ◌≡◌, refl, Bool, true, false, ◌||◌,
 use Rattle.std.proofs.Common.{sym, ◌∙◌, ap, subst, inl, inr}
 use Rattle.meaning.specs.Refusals.{Refusal, number, answer_no}
 use Rattle.meaning.specs.Trees.{Acyclic}
-use Rattle.meaning.specs.Laws.Tests.{number-not-zero}
+use Rattle.meaning.proofs.Laws.Tests.{number-not-zero}
 use Rattle.kinds.specs.declared.reference.Reference.{Reference}
 use Rattle.kinds.specs.declared.step.Step.{Step}
 use Rattle.frames.specs.Order.{Input}
@@ -19,7 +19,7 @@ use Rattle.planning.specs.Planning.{Planned}
 use Rattle.planning.specs.Ways as plan
 use Rattle.step_dimensions.specs.StepDimensions.{Given}
 use Rattle.dimensions.specs.Conditions.{SourceRefused, SourcesRefused, StepRefused, StepsRefused}
-use Rattle.search_meaning.specs.SearchCases.{Row}
+use Rattle.search_meaning.proofs.SearchCases.{Row}
 use Rattle.records.specs.declared.PolType.{PolType}
 use Rattle.constraint_frames.specs.Extension.{Question}
 use Rattle.search_meaning.specs.Search.{Choice}

@@ -14,7 +14,7 @@ use Rattle.context.specs.Context.{Good}
 use Rattle.codegen.specs.Said.{Said, said}
 use Rattle.codegen.specs.Shadows.{shadow}
 use Rattle.search_meaning.specs.Search.{Choice, search}
-use Rattle.search_meaning.specs.SearchCases.{Row}
+use Rattle.search_meaning.proofs.SearchCases.{Row}
 use Rattle.constraint_meaning.specs.Constraint.{Asked, plain_requests}
 use Rattle.constraint_pieces.specs.Marking.{marked_said}
 use Rattle.constraint_frames.specs.Extension.{pool_with}
@@ -68,7 +68,7 @@ module _ (ids : List ℕ) (vc b e limit : ℕ) (c : Before) (u v : Lent) (room :
 
   -- ── a pool ─────────────────────────────────────────────────────────────────
   pub data Generated (acyclic : Acyclic (forest (pool_of i))) : ℕ → Type 0 where
-    -- why no set is chosen: 17, 16, 3, 15, 6, 13 and 14, the rows of search_meaning/specs/SearchCases.antt
+    -- why no set is chosen: 17, 16, 3, 15, 6, 13 and 14, the rows of search_meaning/proofs/SearchCases.antt
     unchosen : {k : ℕ} → (k ≡ 0 → ⊥) → Row (forest (pool_of i)) acyclic ids vc b e limit k → Generated acyclic k
     chosen : {k : ℕ} (x : Choice) → search (forest (pool_of i)) ids vc b e (some limit) ≡ done x → Chosen x k → Generated acyclic k
 

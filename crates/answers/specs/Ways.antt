@@ -49,7 +49,7 @@ use Rattle.plan_exactly.specs.Query.{NoCm}
 use Rattle.step_dimensions.specs.StepDimensions.{unwritten}
 use Rattle.dimensions.specs.Answers.{first_dim_x}
 use Rattle.dimensions.specs.Conditions.{StepsRefused, all_records}
-use Rattle.search_meaning.specs.SearchCases.{Row}
+use Rattle.search_meaning.proofs.SearchCases.{Row}
 use Rattle.sections.specs.Sections as sections
 use Rattle.records.specs.Records.{sections_of, dims_of, positions_of}
 use Rattle.records.specs.declared.PolType.{PolType}
@@ -207,7 +207,7 @@ abbrev pub FirstWay : List ℕ → List ℕ → List ℕ → ℕ → Type 0
 FirstWay s b first k = OfPlan s b (good_list first) (Dimensioned first_dim_x (first ∷ []) b) k
 
 -- ── enonkasse_search ─────────────────────────────────────────────────────────
--- 17, 16, 3, 15, 6, 13, 14 and 0 are the rows of search_meaning/specs/SearchCases.antt
+-- 17, 16, 3, 15, 6, 13, 14 and 0 are the rows of search_meaning/proofs/SearchCases.antt
 abbrev pub SearchWay : List ℕ → List ℕ → ℕ → ℕ → ℕ → ℕ → ℕ → Type 0
 SearchWay s es vc b e limit k = OfFrames s (λ i. OfPool (pool_of i) (λ c. Row (forest (pool_of i)) c es vc b e limit)) k
 

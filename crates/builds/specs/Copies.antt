@@ -9,7 +9,7 @@ use Rattle.std.proofs.Math.ListN.{length}
 use Rattle.std.proofs.Math.Seq.{get_or-set_same, get_or-set_other}
 use Rattle.std.proofs.lemmas.Bool.{eqb-false}
 use Rattle.meaning.specs.Generation.{onto, before}
-use Rattle.meaning.specs.Laws.Tests.{true-false}
+use Rattle.meaning.proofs.Laws.Tests.{true-false}
 use Rattle.kinds.specs.Write.{write, write-append, write-length}
 use Rattle.kinds.specs.Steps.{step_size, step_at, step_bytes, steps_of, steps_bytes, step-sized, step-read, step_kept, steps-length, steps-at, steps-joined}
 use Rattle.kinds.specs.declared.reference.Reference.{Reference}

@@ -11,7 +11,7 @@ use lib.Dec.{leb}
 use borrow.Author.Tests.{leb-true}
 use Rattle.meaning.specs.Refusals.{Refusal, Answer, done, refused, ◌then◌}
 use Rattle.meaning.specs.Trees.{Forest}
-use Rattle.meaning.specs.Laws.Tests.{done-same, done-not-refused}
+use Rattle.meaning.proofs.Laws.Tests.{done-same, done-not-refused}
 use Rattle.kinds.specs.Write.{write}
 use Rattle.kinds.specs.Steps.{step_size, steps_bytes, steps-length}
 use Rattle.kinds.specs.declared.step.Step.{Step}

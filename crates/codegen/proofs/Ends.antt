@@ -12,7 +12,7 @@ use lib.Dec.{leb, ltb}
 use borrow.Author.Tests.{leb-true, ltb-true}
 use Rattle.meaning.specs.Refusals.{Refusal, Answer, done, refused, ◌then◌}
 use Rattle.meaning.specs.Order.{Job}
-use Rattle.meaning.specs.Laws.Tests.{and_left, and_right}
+use Rattle.meaning.proofs.Laws.Tests.{and_left, and_right}
 use Rattle.kinds.specs.Write.{write, write-length, write-after}
 use Rattle.kinds.specs.Steps.{step_size, step_at, step_bytes, steps_bytes, step-sized, steps-length, steps-bytes-length}
 use Rattle.kinds.specs.declared.reference.Reference.{Reference}

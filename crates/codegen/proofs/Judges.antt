@@ -13,7 +13,7 @@ use Rattle.meaning.specs.Refusals.{Refusal, Answer, done, refused, ◌then◌}
 use Rattle.meaning.specs.Trees.{Acyclic}
 use Rattle.meaning.specs.Generation.{Result, Request}
 use Rattle.meaning.specs.Demand3.{NoResult}
-use Rattle.meaning.specs.Laws.Tests.{done-same, done-not-refused, and_left, and_right}
+use Rattle.meaning.proofs.Laws.Tests.{done-same, done-not-refused, and_left, and_right}
 use Rattle.kinds.specs.Kinds.{is_result}
 use Rattle.frames.specs.Order.{Input, blame_answer}
 use Rattle.frames.specs.Tables.{Tables, input_in, expression_in, request_in}

@@ -17,8 +17,8 @@ use Rattle.meaning.specs.Generation.{Result, result, Request, plain_result}
 use Rattle.meaning.specs.Demand3.{NoResult}
 use Rattle.meaning.specs.Asking.{both, ask_one, ask_all, ask-snoc}
 use Rattle.meaning.specs.Holding.{result_allowed, all-asks, last-asks}
-use Rattle.meaning.specs.Laws.Once.{Chain}
-use Rattle.meaning.specs.Laws.Tests.{then-done, done-same, done-not-refused, true-false}
+use Rattle.meaning.proofs.Laws.Once.{Chain}
+use Rattle.meaning.proofs.Laws.Tests.{then-done, done-same, done-not-refused, true-false}
 use Rattle.kinds.specs.Kinds.{is_result}
 use Rattle.kinds.specs.Write.{write}
 use Rattle.kinds.specs.References.{plain_ref}

@@ -15,8 +15,8 @@ use Rattle.meaning.specs.Steps.{Cell, Ref}
 use Rattle.meaning.specs.Order.{there, ask}
 use Rattle.meaning.specs.Generation.{State, Result, result, Request, plain_result, serve_all}
 use Rattle.meaning.specs.Holding.{mapped, copy_on, serve_on}
-use Rattle.meaning.specs.Laws.Tests.{true-false, number-not-zero}
-use Rattle.meaning.specs.Laws.Levels.{OnlyDouble, asks-refuse_5}
+use Rattle.meaning.proofs.Laws.Tests.{true-false, number-not-zero}
+use Rattle.meaning.proofs.Laws.Levels.{OnlyDouble, asks-refuse_5}
 use Rattle.kinds.specs.Steps.{step_size}
 use Rattle.frames.specs.Order.{Input}
 use Rattle.pool.specs.Trees.{forest}

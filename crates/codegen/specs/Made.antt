@@ -10,7 +10,7 @@ use Rattle.meaning.specs.Emission.{emit, block_steps}
 use Rattle.meaning.specs.Order.{Job, asked}
 use Rattle.meaning.specs.Generation.{Block, make_one, make}
 use Rattle.meaning.specs.Building as building
-use Rattle.meaning.specs.Laws.Tests.{each_map}
+use Rattle.meaning.proofs.Laws.Tests.{each_map}
 use Rattle.pool.specs.Laws.Tabled.{expression-count}
 use Rattle.pool.specs.Laws.Forest.{forest-has}
 use Rattle.starkinfo_codegen.specs.Emitting.{Rest, tables_of, pool_of}

@@ -4,7 +4,7 @@ use Rattle.std.specs.Prelude.{ℕ, zero, suc, ◌+◌, ◌<◌, ◌≤◌, ◌�
 use Rattle.std.proofs.Common.{◌∙◌, arith, not-suc-le-zero, le_of_suc-le-suc, length-set, get_or-set_other}
 use Rattle.meaning.specs.Trees.{Each}
 use Rattle.meaning.specs.Order.{Job}
-use Rattle.meaning.specs.Laws.Once.{Chain}
+use Rattle.meaning.proofs.Laws.Once.{Chain}
 use Rattle.pool.specs.Ranking.{zeros}
 use Rattle.starkinfo_codegen.specs.Ordering.{marks_of}
 use Rattle.starkinfo_codegen.specs.Marked.{chain_room}

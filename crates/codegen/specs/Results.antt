@@ -8,7 +8,7 @@ use Rattle.meaning.specs.Trees.{RowKind, FlatKind, XKind, Each}
 use Rattle.meaning.specs.Steps.{BareKind, Kind, kind_no}
 use Rattle.meaning.specs.Generation.{Result, result, Request}
 use Rattle.meaning.specs.Demand3.{NoResult}
-use Rattle.meaning.specs.Laws.Tests.{true-false, and_left, and_right}
+use Rattle.meaning.proofs.Laws.Tests.{true-false, and_left, and_right}
 use Rattle.kinds.specs.Range.{within}
 use Rattle.kinds.specs.Kinds.{is_leaf, is_reference, is_result}
 

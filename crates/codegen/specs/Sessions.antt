@@ -17,13 +17,13 @@ use Rattle.meaning.specs.Steps.{Step}
 use Rattle.meaning.specs.Values.{Algebra, Given}
 use Rattle.meaning.specs.Models.{integers, modulo}
 use Rattle.meaning.specs.Demand3.{NoResult, PlainLeaf, Throughout, AllGiven, Computes}
-use Rattle.meaning.specs.Proved.{demand3}
+use Rattle.meaning.proofs.Proved.{demand3}
 use Rattle.meaning.specs.Asking.{ask_all}
 use Rattle.meaning.specs.Holding.{mapped, serve_all-asks}
-use Rattle.meaning.specs.Laws.Tests.{then-done, done-same, done-not-refused, each-join, each_both, each_map}
-use Rattle.meaning.specs.Laws.First.{serve-append}
-use Rattle.meaning.specs.Laws.Jobs.{after}
-use Rattle.meaning.specs.Laws.Once.{Chain, all_once, all-rows, all_found, all-marks}
+use Rattle.meaning.proofs.Laws.Tests.{then-done, done-same, done-not-refused, each-join, each_both, each_map}
+use Rattle.meaning.proofs.Laws.First.{serve-append}
+use Rattle.meaning.proofs.Laws.Jobs.{after}
+use Rattle.meaning.proofs.Laws.Once.{Chain, all_once, all-rows, all_found, all-marks}
 use Rattle.kinds.specs.Write.{write, write-length}
 use Rattle.kinds.specs.BigEndian.{u16_at}
 use Rattle.kinds.specs.Steps.{steps_of}

@@ -13,7 +13,7 @@ use Rattle.meaning.specs.Generation.{Block, State, Result, result, Request, make
 use Rattle.meaning.specs.Generation as meaning
 use Rattle.meaning.specs.Holding.{copy_on, serve_on, serve_all_on, states, serve_all-on}
 use Rattle.meaning.specs.Conditions.{Stepped, Refused3, Refused5, Refused7, Refused8, FirstRefused}
-use Rattle.meaning.specs.Exactly.{all_3, all_5, all_7, all_8}
+use Rattle.meaning.proofs.Exactly.{all_3, all_5, all_7, all_8}
 use Rattle.kinds.specs.declared.reference.Reference.{Reference}
 use Rattle.kinds.specs.declared.step.Step as raw
 use Rattle.kinds.specs.Steps.{step_size, steps-length}

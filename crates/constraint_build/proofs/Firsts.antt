@@ -9,7 +9,7 @@ use native.Mathlib.Omega.{arith}
 use lib.ListN.{length}
 use lib.Dec.{leb}
 use Rattle.meaning.specs.Refusals.{Refusal, Answer, done, refused, ◌then◌}
-use Rattle.meaning.specs.Laws.Tests.{and_left, done-not-refused}
+use Rattle.meaning.proofs.Laws.Tests.{and_left, done-not-refused}
 use Rattle.pool.specs.Pool.{Pool}
 use Rattle.pool.specs.Trees.{forest}
 use Rattle.starkinfo_codegen.specs.Emitting.{Rest, pool_of}

@@ -7,7 +7,7 @@ use mathlib.Core.Option.{none}
 use mathlib.Core.List.{List, []}
 use lib.ListN.{length}
 use Rattle.meaning.specs.Refusals.{Refusal, Answer, done, refused, ◌then◌}
-use Rattle.meaning.specs.Laws.Tests.{done-same, done-not-refused}
+use Rattle.meaning.proofs.Laws.Tests.{done-same, done-not-refused}
 use Rattle.frames.specs.Order.{Input, blame_answer}
 use Rattle.frames.specs.Tables as frames
 use Rattle.frames.specs.Tables.{input_in}

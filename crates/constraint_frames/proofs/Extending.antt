@@ -11,7 +11,7 @@ use lib.Dec.{leb}
 use borrow.Author.Tests.{lt-ltb, le-ltb, leb-true}
 use Rattle.meaning.specs.Refusals.{Refusal, Answer, done, refused, ◌then◌}
 use Rattle.meaning.specs.Trees.{Forest}
-use Rattle.meaning.specs.Laws.Tests.{and_left, and_right, done-not-refused}
+use Rattle.meaning.proofs.Laws.Tests.{and_left, and_right, done-not-refused}
 use Rattle.frames.specs.Written.{frames_of}
 use Rattle.pool.specs.Pool.{Pool}
 use Rattle.pool.specs.Trees.{forest}

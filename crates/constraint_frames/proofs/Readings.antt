@@ -8,7 +8,7 @@ use mathlib.Core.List.{List, []}
 use lib.ListN.{length, get_or}
 use lib.Dec.{eqb}
 use Rattle.meaning.specs.Refusals.{Refusal, Answer, done, refused, ◌then◌}
-use Rattle.meaning.specs.Laws.Tests.{and_right, done-same, done-not-refused}
+use Rattle.meaning.proofs.Laws.Tests.{and_right, done-same, done-not-refused}
 use Rattle.frames.specs.Order.{Input}
 use Rattle.frames.specs.Tables as frames
 use Rattle.frames.specs.Tables.{input_in}

@@ -8,7 +8,7 @@ use Rattle.kinds.specs.Kinds.{child_count}
 use Rattle.kinds.specs.Range.{within}
 use Rattle.meaning.specs.Refusals.{Refusal, Answer, done, refused, ◌then◌}
 use Rattle.meaning.specs.Trees.{Each, Acyclic}
-use Rattle.meaning.specs.Laws.Tests.{and_right, done-not-refused}
+use Rattle.meaning.proofs.Laws.Tests.{and_right, done-not-refused}
 use Rattle.frames.specs.Order.{node_limit, expression_limit}
 use Rattle.frames.specs.Written.{WellFormed, read_back}
 use Rattle.frames.specs.declared.node.Node.{Node}

@@ -7,7 +7,7 @@ use mathlib.Core.List.{List}
 use native.Mathlib.Omega.{arith}
 use lib.ListN.{length}
 use Rattle.meaning.specs.Order.{Job}
-use Rattle.meaning.specs.Laws.Tests.{and_left}
+use Rattle.meaning.proofs.Laws.Tests.{and_left}
 use Rattle.kinds.specs.Write.{write}
 use Rattle.kinds.specs.Steps.{step_size}
 use Rattle.starkinfo_codegen.specs.Encoding.{encoded}

@@ -19,8 +19,8 @@ use Rattle.meaning.specs.Generation.{Request}
 use Rattle.meaning.specs.Demand3.{NoResult}
 use Rattle.meaning.specs.Asking.{ask_all}
 use Rattle.meaning.specs.Holding.{all-asks}
-use Rattle.meaning.specs.Laws.Once.{Chain}
-use Rattle.meaning.specs.Laws.Tests.{each_map}
+use Rattle.meaning.proofs.Laws.Once.{Chain}
+use Rattle.meaning.proofs.Laws.Tests.{each_map}
 use Rattle.kinds.specs.Write.{write}
 use Rattle.frames.specs.Order.{expression_limit, request_limit}
 use Rattle.frames.specs.Tables.{request_in, request_word, first}

@@ -14,7 +14,7 @@ use Rattle.meaning.specs.Refusals.{Refusal, Answer, done, refused}
 use Rattle.meaning.specs.Trees.{Forest, nth}
 use Rattle.meaning.specs.Order.{Marks, Job}
 use Rattle.meaning.specs.Building.{flagged}
-use Rattle.meaning.specs.Laws.Tests.{and_left, and_right}
+use Rattle.meaning.proofs.Laws.Tests.{and_left, and_right}
 use Rattle.kinds.specs.Write.{write, write-length, write-after}
 use Rattle.kinds.specs.Steps.{step_size, steps_bytes, steps-length}
 use Rattle.kinds.specs.declared.step.Step.{Step}

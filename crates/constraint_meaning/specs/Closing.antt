@@ -10,8 +10,8 @@ use Rattle.meaning.specs.Emission.{Own, emit, root_step}
 use Rattle.meaning.specs.Order.{Marks, Job, Asked, there, own, ask_leaves, fresh, ask_below, ask}
 use Rattle.meaning.specs.Generation.{Block, State, make_one, make, last_destination, adding, block_of, generate, serve}
 use Rattle.meaning.specs.Building.{every}
-use Rattle.meaning.specs.Laws.Tests.{then-done, done-same}
-use Rattle.meaning.specs.Laws.Requests.{every_append}
+use Rattle.meaning.proofs.Laws.Tests.{then-done, done-same}
+use Rattle.meaning.proofs.Laws.Requests.{every_append}
 use Rattle.search_meaning.specs.Search.{member}
 use Rattle.constraint_meaning.specs.Tree.{extended}
 use Rattle.constraint_meaning.specs.Constraint.{Built, plain_request, marked, quotient_ref, zi_ref, product, closed, close_last, closing, step42ns}

@@ -6,5 +6,4 @@ pub mod Ranks
 pub mod Members
 pub mod Sum
 pub mod Closing
-pub mod Exactly
 pub mod Runs

@@ -6,7 +6,7 @@ use Rattle.std.proofs.Math.Option.{Option, none, some}
 use mathlib.Core.List.{List, [], ◌∷◌}
 use Rattle.meaning.specs.Refusals.{Refusal, Answer, done, refused}
 use Rattle.meaning.specs.Trees.{Op, Expr, Expression, Forest, nth, Each}
-use Rattle.meaning.specs.Laws.Tests.{true-false, done-not-refused, nth-below}
+use Rattle.meaning.proofs.Laws.Tests.{true-false, done-not-refused, nth-below}
 use Rattle.search_meaning.specs.Degrees.{Class, class_of, full, full_table}
 use Rattle.search_meaning.specs.Search.{member, insert, Tally, Out, Search, next, counted, Found, found, set_of, both, better, settled, free, Reads, room, visit, pair, splits, cut_body, reference, leaf_rule, product, rule, body_in, body, top, candidate, q_of, weight, keep, Choice, finish_at, finish, onward, tries, identity_leaf, fold_more, all_below, bits_ok, unless, search}
 

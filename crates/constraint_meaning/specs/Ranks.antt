@@ -4,7 +4,7 @@ use Rattle.std.specs.Prelude.{ℕ, zero, suc, ◌+◌, ◌<◌, ◌≤◌, ◌�
 use Rattle.std.proofs.Common.{sym, ◌∙◌, ap, subst, inl, inr, arith, lt-ltb, le-ltb}
 use Rattle.std.proofs.Math.Option.{Option, none, some, none-ne-some}
 use Rattle.meaning.specs.Trees.{RowKind, FlatKind, Leaf, Expr, Expression, Forest, nth, Placed, ◌at◌, leaves, Each, Falls, Acyclic}
-use Rattle.meaning.specs.Laws.Tests.{each_left, each_right, each-join, each_map, nth-below}
+use Rattle.meaning.proofs.Laws.Tests.{each_left, each_right, each-join, each_map, nth-below}
 use Rattle.search_meaning.specs.Search.{identity_leaf}
 use Rattle.constraint_meaning.specs.Tree.{Numbered, number_from, plus, Intermediate, minus_column, plus_member, plus_identities, plus_members, constraint_tree, extended}
 

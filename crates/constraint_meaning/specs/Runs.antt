@@ -11,9 +11,9 @@ use Rattle.meaning.specs.Running.{Store, empty, run}
 use Rattle.meaning.specs.Generation.{State, make, serve}
 use Rattle.meaning.specs.Building.{every}
 use Rattle.meaning.specs.Demand3.{Throughout, Fed, Held}
-use Rattle.meaning.specs.Laws.Jobs.{asks}
-use Rattle.meaning.specs.Laws.Blocks.{Inv, add-blocks}
-use Rattle.meaning.specs.Laws.Requests.{every_append}
+use Rattle.meaning.proofs.Laws.Jobs.{asks}
+use Rattle.meaning.proofs.Laws.Blocks.{Inv, add-blocks}
+use Rattle.meaning.proofs.Laws.Requests.{every_append}
 use Rattle.constraint_meaning.specs.Tree.{extended}
 use Rattle.constraint_meaning.specs.Constraint.{plain_request, marked}
 use Rattle.constraint_meaning.specs.Ranks.{unflagged, nth-constraint}

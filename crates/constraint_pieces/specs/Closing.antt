@@ -7,7 +7,7 @@ use Rattle.std.proofs.Math.Option.{Option, none}
 use Rattle.meaning.specs.Refusals.{Refusal, Answer, done, refused, ◌then◌}
 use Rattle.meaning.specs.Trees.{Each}
 use Rattle.meaning.specs.Generation.{Block, State}
-use Rattle.meaning.specs.Laws.Tests.{then-done, done-same, done-not-refused}
+use Rattle.meaning.proofs.Laws.Tests.{then-done, done-same, done-not-refused}
 use Rattle.frames.specs.Order.{expression_limit}
 use Rattle.builds.specs.Raw.{RawBlock}
 use Rattle.builds.specs.Held.{Celled}

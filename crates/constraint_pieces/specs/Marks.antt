@@ -11,7 +11,7 @@ use Rattle.std.proofs.Math.Seq.{get_or-set_same, get_or-set_other}
 use Rattle.std.proofs.Math.Dec.{ltb, eqb}
 use borrow.Author.Tests.{ltb-true, ltb-false, eqb-true, eqb-false, lt-ltb, le-ltb}
 use Rattle.meaning.specs.Order.{Marks}
-use Rattle.meaning.specs.Laws.Tests.{and_left, and_right}
+use Rattle.meaning.proofs.Laws.Tests.{and_left, and_right}
 use Rattle.search_meaning.specs.Search.{member}
 use Rattle.starkinfo_codegen.specs.Ordering.{cell_of, marks_of}
 

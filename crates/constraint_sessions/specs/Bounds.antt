@@ -11,9 +11,9 @@ use Rattle.meaning.specs.Building.{released, after_build}
 use Rattle.meaning.specs.Demand3.{NoResult}
 use Rattle.meaning.specs.Asking.{ask_all}
 use Rattle.meaning.specs.Holding.{serve_all-asks}
-use Rattle.meaning.specs.Laws.Jobs.{after}
-use Rattle.meaning.specs.Laws.Once.{all-rows, all_found, all-marks}
-use Rattle.meaning.specs.Laws.Tests.{then-done, done-same, each_both}
+use Rattle.meaning.proofs.Laws.Jobs.{after}
+use Rattle.meaning.proofs.Laws.Once.{all-rows, all_found, all-marks}
+use Rattle.meaning.proofs.Laws.Tests.{then-done, done-same, each_both}
 use Rattle.pool.specs.Laws.Forest.{nth-below}
 use Rattle.codegen.specs.Sessions.{Bounded}
 use Rattle.constraint_meaning.specs.Constraint.{plain_requests}

@@ -12,7 +12,7 @@ use Rattle.meaning.specs.Values.{Algebra, Given}
 use Rattle.meaning.specs.Generation.{State}
 use Rattle.meaning.specs.Building.{every}
 use Rattle.meaning.specs.Demand3.{Throughout, Fed}
-use Rattle.meaning.specs.Laws.Blocks.{Inv}
+use Rattle.meaning.proofs.Laws.Blocks.{Inv}
 use Rattle.kinds.specs.Write.{write}
 use Rattle.frames.specs.Order.{expression_limit}
 use Rattle.starkinfo_codegen.specs.Encoding.{records, encoded}

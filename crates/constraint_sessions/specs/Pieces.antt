@@ -7,7 +7,7 @@ use Rattle.std.proofs.Math.Option.{none}
 use Rattle.meaning.specs.Refusals.{Refusal, Answer, done, refused, ◌then◌}
 use Rattle.meaning.specs.Trees.{Forest, Each}
 use Rattle.meaning.specs.Generation.{Block, State, Request, serve, serve_all}
-use Rattle.meaning.specs.Laws.Tests.{then-done, done-not-refused}
+use Rattle.meaning.proofs.Laws.Tests.{then-done, done-not-refused}
 use Rattle.frames.specs.Order.{Input, expression_limit}
 use Rattle.frames.specs.Packing.{first-length}
 use Rattle.pool.specs.Trees.{forest}

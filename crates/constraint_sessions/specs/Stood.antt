@@ -9,7 +9,7 @@ use Rattle.meaning.specs.Trees.{Forest}
 use Rattle.meaning.specs.Generation.{State, serve, serve_all}
 use Rattle.meaning.specs.Building.{after_build}
 use Rattle.meaning.specs.Holding.{mapped}
-use Rattle.meaning.specs.Laws.Tests.{done-same, done-not-refused}
+use Rattle.meaning.proofs.Laws.Tests.{done-same, done-not-refused}
 use Rattle.kinds.specs.Steps.{steps-none}
 use Rattle.frames.specs.Order.{expression_limit}
 use Rattle.builds.specs.RawOf.{raw_lists}

@@ -13,7 +13,7 @@ use lib.ListN.{length, get_or}
 use borrow.Author.Tests.{le-leb, lt-leb, leb-true, leb-false, lt-ltb, le-ltb, ltb-true, eqb-true, eqb-false}
 use Rattle.meaning.specs.Refusals.{Refusal, Answer, done, refused}
 use Rattle.meaning.specs.Trees.{Forest}
-use Rattle.meaning.specs.Laws.Tests.{done-same, done-not-refused, true-false}
+use Rattle.meaning.proofs.Laws.Tests.{done-same, done-not-refused, true-false}
 use Rattle.search_meaning.specs.Search.{Choice, bits_ok, all_below, unless, folds, tries, search}
 use Rattle.frames.specs.Order.{Input, blame_answer}
 use Rattle.frames.specs.Tables as frames

@@ -5,9 +5,9 @@ use Rattle.std.proofs.Common.{sym, ◌∙◌, ap, subst}
 use Rattle.std.proofs.Math.Option.{Option}
 use Rattle.meaning.specs.Refusals.{Refusal, Answer, done, refused, ◌then◌, answer_no}
 use Rattle.meaning.specs.Trees.{Acyclic}
-use Rattle.meaning.specs.Laws.Tests.{done-same, done-not-refused}
+use Rattle.meaning.proofs.Laws.Tests.{done-same, done-not-refused}
 use Rattle.search_meaning.specs.Search.{Choice}
-use Rattle.search_meaning.specs.SearchCases.{Row, exactly}
+use Rattle.search_meaning.proofs.SearchCases.{Row, exactly}
 use Rattle.frames.specs.Order.{Input}
 use Rattle.pool.specs.Pool.{Pool}
 use Rattle.pool.specs.Trees.{forest}

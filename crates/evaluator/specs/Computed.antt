@@ -13,8 +13,8 @@ use Rattle.meaning.specs.Running.{empty}
 use Rattle.meaning.specs.Generation.{Request, start, serve_all}
 use Rattle.meaning.specs.Building.{Segment, whole}
 use Rattle.meaning.specs.Demand3.{NoResult, Throughout, Fed, Computes, ValueFor, HeldFor}
-use Rattle.meaning.specs.Proved.{demand3-fed}
-use Rattle.meaning.specs.Laws.Tests.{then-done, done-same, number-not-zero, each_both}
+use Rattle.meaning.proofs.Proved.{demand3-fed}
+use Rattle.meaning.proofs.Laws.Tests.{then-done, done-same, number-not-zero, each_both}
 use Rattle.frames.specs.Order.{Input, nothing, node_limit, counts_of}
 use Rattle.frames.specs.Reading.{frames_in, read_from, reading}
 use Rattle.frames.specs.Exactly.{read_as}

@@ -14,8 +14,8 @@ use Rattle.meaning.specs.Running.{empty}
 use Rattle.meaning.specs.Generation.{State, Request, start, serve_all}
 use Rattle.meaning.specs.Building.{Segment, segment, whole}
 use Rattle.meaning.specs.Demand3.{NoResult, Throughout, Fed}
-use Rattle.meaning.specs.Proved.{demand3-fed}
-use Rattle.meaning.specs.Laws.Tests.{then-done, done-same, each_both}
+use Rattle.meaning.proofs.Proved.{demand3-fed}
+use Rattle.meaning.proofs.Laws.Tests.{then-done, done-same, each_both}
 use Rattle.frames.specs.Order.{Input, node_limit}
 use Rattle.frames.specs.Reading.{reading}
 use Rattle.pool.specs.Pool.{Pool}
@@ -30,7 +30,7 @@ use Rattle.lists.specs.Decoding.{steps_from}
 use Rattle.lent_lists.specs.Verdicts.{fine}
 use Rattle.fixed_meaning.specs.Fixing.{Plan, fix_segment}
 use Rattle.fixed_meaning.specs.Demand3Fixed.{ColumnsDiffer, NoIntermediateRead, cell_for, HeldFixed, ValueFixed, ComputesFixed}
-use Rattle.fixed_meaning.specs.ProvedFixed.{with_lists, fixed-computes, fixed-steps}
+use Rattle.fixed_meaning.proofs.ProvedFixed.{with_lists, fixed-computes, fixed-steps}
 use Rattle.fixing.specs.ProverCode.{plan_of, prover_verdict, list_after}
 use Rattle.fixing.specs.Said.{SaysSegment, accepted-says, says-fixed}
 use Rattle.fixing.specs.Kept.{fixed-good}

@@ -15,7 +15,7 @@ use Rattle.meaning.specs.Values.{bind}
 use Rattle.meaning.specs.Models.{modulo}
 use Rattle.meaning.specs.Steps.{Step}
 use Rattle.meaning.specs.Running.{Store, exec, run}
-use Rattle.meaning.specs.Laws.Tests.{bind-some}
+use Rattle.meaning.proofs.Laws.Tests.{bind-some}
 use Rattle.evaluator_cells.specs.Given.{Lent, given, section_count, start_of, good_values}
 use Rattle.evaluator_run.specs.Evaluation.{well_formed}
 use Rattle.lists.specs.Records.{record_count, records_in, counted_in, good_reference, good_references, good_record, good_records, good_list}

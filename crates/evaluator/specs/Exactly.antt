@@ -11,7 +11,7 @@ use Rattle.meaning.specs.Values.{bind}
 use Rattle.meaning.specs.Models.{modulo}
 use Rattle.meaning.specs.Steps.{Step}
 use Rattle.meaning.specs.Running.{Store, empty, run}
-use Rattle.meaning.specs.Laws.Tests.{number-not-zero, true-false, done-not-refused}
+use Rattle.meaning.proofs.Laws.Tests.{number-not-zero, true-false, done-not-refused}
 use Rattle.frames.specs.Order.{Input}
 use Rattle.frames.specs.Reading.{reading}
 use Rattle.frames.specs.Exactly as frames

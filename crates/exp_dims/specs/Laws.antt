@@ -5,7 +5,7 @@ use Rattle.std.proofs.Common.{ap, arith}
 use Rattle.std.proofs.Math.Option.{Option, none, some}
 use Rattle.std.proofs.Math.ListN.{length}
 use Rattle.meaning.specs.Trees.{RowKind, FlatKind, XKind, Leaf, Expr, nth, Placed, ◌at◌, leaves, Each}
-use Rattle.meaning.specs.Laws.Tests.{each_left, each_right}
+use Rattle.meaning.proofs.Laws.Tests.{each_left, each_right}
 use Rattle.frames.specs.declared.node.Node.{Node}
 use Rattle.pool.specs.Pool.{Pool, root_of}
 use Rattle.pool.specs.Trees.{Class, binary, fused, constant, negation, leafy, grown, tree}

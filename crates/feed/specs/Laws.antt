@@ -4,7 +4,7 @@ use Rattle.std.specs.Prelude.{ℕ, suc, ◌+◌, ◌*◌, ◌≤◌, ◌<◌, �
 use Rattle.std.proofs.Common.{sym, ◌∙◌, ap, arith, add-one, length-append, length-take, length-set, take_all, take-suc-set, ltb-true, ltb-false}
 use Rattle.std.proofs.lemmas.List.{take-append-le}
 use Rattle.std.proofs.lemmas.Bool.{lt-leb}
-use Rattle.meaning.specs.Laws.Tests.{each-join}
+use Rattle.meaning.proofs.Laws.Tests.{each-join}
 use Rattle.frames.specs.Lines.{longest_frame, line_ok, bytes_of}
 use Rattle.frames.specs.Tables.{Tables, Sized, input_in, first}
 use Rattle.frames.specs.Text.{line_feed, line_frame, reading_text}

@@ -5,7 +5,7 @@ use Rattle.std.proofs.Common.{sym, ◌∙◌, ap, append_assoc, append-nil, arit
 use Rattle.std.proofs.Math.Option.{none}
 use Rattle.std.proofs.lemmas.Bool.{lt-leb}
 use Rattle.meaning.specs.Refusals.{refused, malformed}
-use Rattle.meaning.specs.Laws.Tests.{each-join}
+use Rattle.meaning.proofs.Laws.Tests.{each-join}
 use Rattle.frames.specs.Frames.{frame_of}
 use Rattle.frames.specs.Order.{Input, step, at_fault}
 use Rattle.frames.specs.Lines.{longest_frame, line_ok, all_digits, bytes_of}

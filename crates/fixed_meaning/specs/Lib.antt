@@ -1,9 +1,4 @@
 pub mod Fixing
 pub mod Demand3Fixed
 pub mod Renaming
-pub mod FixingLaws
-pub mod OneToOne
-pub mod Listed
-pub mod Early
-pub mod ProvedFixed
 pub mod FixingExamples

@@ -7,8 +7,8 @@ use Rattle.meaning.specs.Trees.{Each}
 use Rattle.meaning.specs.Steps.{Cell, same, place, Ref, StepOp, Step, step}
 use Rattle.meaning.specs.Values.{Algebra, Given, bind}
 use Rattle.meaning.specs.Running.{Store, set, writable, write, before, either, two, three, read, read_all, computes, exec, run}
-use Rattle.meaning.specs.Laws.Tests.{true-false, bind-some}
-use Rattle.meaning.specs.Laws.Cells.{same_refl, same_eq, same_not}
+use Rattle.meaning.proofs.Laws.Tests.{true-false, bind-some}
+use Rattle.meaning.proofs.Laws.Cells.{same_refl, same_eq, same_not}
 use Rattle.fixed_meaning.specs.Fixing.{rename_ref}
 
 -- ── renaming ─────────────────────────────────────────────────────────────────

@@ -10,7 +10,7 @@ use Rattle.kinds.specs.Range.{within, within-true, within_in}
 use Rattle.kinds.specs.declared.reference.Reference.{Reference}
 use Rattle.kinds.specs.declared.step.Step.{Step}
 use Rattle.meaning.specs.Trees.{Each}
-use Rattle.meaning.specs.Laws.Tests.{true-false, and_left, and_right}
+use Rattle.meaning.proofs.Laws.Tests.{true-false, and_left, and_right}
 use Rattle.lent_lists.specs.Verdicts.{Verdict, fine, malformed, not_there, no_rule, full, verdict_no, first_of, only}
 use Rattle.lent_lists.specs.Records.{segment_in, good_lists}
 use Rattle.lent_lists.specs.Walks.{walked, record_verdict}

@@ -6,7 +6,7 @@ use Rattle.kinds.specs.KindBytes as kind
 use Rattle.kinds.specs.Kinds.{is_reference, is_leaf}
 use Rattle.kinds.specs.Range.{within}
 use Rattle.kinds.specs.declared.reference.Reference.{Reference}
-use Rattle.meaning.specs.Laws.Tests.{and_right}
+use Rattle.meaning.proofs.Laws.Tests.{and_right}
 use Rattle.fixed_meaning.specs.Fixing.{Map}
 use Rattle.lists.specs.Records.{records_in, good_reference, good_list}
 use Rattle.lent_lists.specs.Verdicts.{fine}

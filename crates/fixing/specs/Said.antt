@@ -20,7 +20,7 @@ use Rattle.meaning.specs.Trees.{Lit, Each}
 use Rattle.meaning.specs.Values.{bind}
 use Rattle.meaning.specs.Steps.{Kind, Cell, Ref, StepOp, Step, step}
 use Rattle.meaning.specs.Building.{Segment}
-use Rattle.meaning.specs.Laws.Tests.{true-false, and_left, and_right}
+use Rattle.meaning.proofs.Laws.Tests.{true-false, and_left, and_right}
 use Rattle.fixed_meaning.specs.Fixing.{fix_segment}
 use Rattle.lent_lists.specs.Verdicts.{Verdict, fine, malformed, no_rule, full, verdict_no, first_of, only}
 use Rattle.lent_lists.specs.Laws.Records.{record-used}

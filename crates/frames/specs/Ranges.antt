@@ -7,7 +7,7 @@ use borrow.Author.Tests.{leb-true}
 use Rattle.kinds.specs.Kinds.{is_node_kind}
 use Rattle.meaning.specs.Refusals.{Answer, done, refused, ◌then◌}
 use Rattle.meaning.specs.Trees.{Each}
-use Rattle.meaning.specs.Laws.Tests.{and_left, and_right, each_left, each_right, each-join}
+use Rattle.meaning.proofs.Laws.Tests.{and_left, and_right, each_left, each_right, each-join}
 use Rattle.frames.specs.Nodes.{kind_byte, next_byte, id_field, head_ok, node_ok, node_from}
 use Rattle.frames.specs.Rest.{prime_byte, expression_ok, expression_from, request_ok, request_from}
 use Rattle.frames.specs.Frames.{Item, node, expression, request, frame_of}

@@ -5,7 +5,7 @@ use Rattle.std.proofs.Common.{sym, ◌∙◌, ap, subst, inr, arith, eqb-true}
 use Rattle.std.proofs.Math.Option.{some}
 use Rattle.std.proofs.lemmas.Bool.{eqb-false}
 use Rattle.meaning.specs.Trees.{Expression, nth, Placed, leaves, Each}
-use Rattle.meaning.specs.Laws.Tests.{each_left, each_right}
+use Rattle.meaning.proofs.Laws.Tests.{each_left, each_right}
 use Rattle.search_meaning.specs.Degrees.{full_leaf, full}
 use Rattle.search_meaning.specs.Levels.{full_is}
 use Rattle.kinds.specs.KindBytes as kind

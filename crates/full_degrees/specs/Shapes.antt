@@ -4,7 +4,7 @@ use Rattle.std.specs.Prelude.{ℕ, ◌<◌, ◌≤◌, ◌≡◌, refl, Bool, tr
 use Rattle.std.proofs.Common.{sym, ◌∙◌, ap, ap₂, subst, inl, inr, arith, ne_eqb, eqb-true, ltb-true, ltb-false}
 use Rattle.std.proofs.lemmas.Bool.{eqb-false}
 use Rattle.meaning.specs.Trees.{Lit, Op, OpC, Leaf, Expr, Placed, leaves, Each}
-use Rattle.meaning.specs.Laws.Tests.{each_left, each_right}
+use Rattle.meaning.proofs.Laws.Tests.{each_left, each_right}
 use Rattle.search_meaning.specs.Degrees.{Class, class_of}
 use Rattle.kinds.specs.KindBytes as kind
 use Rattle.kinds.specs.Range.{within, within_in, within-below, within-above}

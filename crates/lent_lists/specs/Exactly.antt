@@ -10,7 +10,7 @@ use Rattle.kinds.specs.StepOps.{is_step, sources_needed}
 use Rattle.kinds.specs.declared.reference.Reference.{Reference}
 use Rattle.kinds.specs.declared.step.Step.{Step}
 use Rattle.meaning.specs.Trees.{Each, up_to}
-use Rattle.meaning.specs.Laws.Tests.{true-false, and_left, and_right, each_map}
+use Rattle.meaning.proofs.Laws.Tests.{true-false, and_left, and_right, each_map}
 use Rattle.lists.specs.Records.{counted_in}
 use Rattle.lent_lists.specs.Verdicts.{Verdict, fine, malformed, not_there, no_rule, full, verdict_no, first_of, only}
 use Rattle.lent_lists.specs.Records.{runs}

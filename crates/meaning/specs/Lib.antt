@@ -12,9 +12,6 @@ pub mod Demand3
 pub mod Asking
 pub mod Holding
 pub mod Conditions
-pub mod Laws
 pub mod Models
-pub mod Proved
 pub mod Examples
 pub mod Shortcuts
-pub mod Exactly

@@ -18,7 +18,7 @@ use Rattle.meaning.specs.Emission.{leaf_ref, Own, Emitted, Settled, settle, sett
 use Rattle.meaning.specs.Order.{asked}
 use Rattle.meaning.specs.Generation.{Block}
 use Rattle.meaning.specs.Building.{every}
-use Rattle.meaning.specs.Laws.Tests.{each-join, each_map}
+use Rattle.meaning.proofs.Laws.Tests.{each-join, each_map}
 use Rattle.frames.specs.declared.node.Node.{Node}
 use Rattle.frames.specs.Order.{node_limit}
 use Rattle.pool.specs.Pool.{Pool, node, children}

@@ -9,7 +9,7 @@ use Rattle.meaning.specs.Steps.{Cell, Ref, StepOp, Step, step, exp_cell}
 use Rattle.meaning.specs.Order.{Job, there, ask}
 use Rattle.meaning.specs.Generation.{Block, State, start, Result, result, Request, make_one, make, last_destination, copied, is_block, onto, before, copy_into, with_blocks, copy_out, plain_result, adding, generate, serve, serve_all}
 use Rattle.meaning.specs.Building.{Segment, segment, whole}
-use Rattle.meaning.specs.Laws.Tests.{each-join, each_map, then-done, done-same}
+use Rattle.meaning.proofs.Laws.Tests.{each-join, each_map, then-done, done-same}
 use Rattle.pool.specs.Pool.{Pool, root_of}
 use Rattle.pool.specs.Trees.{forest}
 use Rattle.pool.specs.Shaped.{Shaped}

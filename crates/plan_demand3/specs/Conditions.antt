@@ -5,7 +5,7 @@ use Rattle.std.specs.Prelude.{ℕ, ◌<◌, ◌≤◌, ◌≡◌, Bool, List, le
 use Rattle.std.proofs.Common.{sym, ◌∙◌, ap}
 use Rattle.meaning.specs.Trees.{RowKind, Leaf, Forest, Placed, ◌at◌, leaves}
 use Rattle.meaning.specs.Demand3.{Throughout}
-use Rattle.meaning.specs.Laws.Tests.{each_map}
+use Rattle.meaning.proofs.Laws.Tests.{each_map}
 use Rattle.frames.specs.Order.{expression_limit}
 use Rattle.frames.specs.Taking.{Bytes}
 use Rattle.pool.specs.Pool.{Pool}

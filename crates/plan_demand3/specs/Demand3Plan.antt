@@ -11,8 +11,8 @@ use Rattle.meaning.specs.Models.{integers, modulo}
 use Rattle.meaning.specs.Generation.{start, serve_all}
 use Rattle.meaning.specs.Building.{Segment, segment}
 use Rattle.meaning.specs.Demand3.{Throughout, Fed}
-use Rattle.meaning.specs.Proved.{demand3-fed}
-use Rattle.meaning.specs.Laws.Tests.{then-done, done-same}
+use Rattle.meaning.proofs.Proved.{demand3-fed}
+use Rattle.meaning.proofs.Laws.Tests.{then-done, done-same}
 use Rattle.frames.specs.Order.{Input, counts_of, expression_limit}
 use Rattle.frames.specs.Reading.{reading}
 use Rattle.frames.specs.Limits.{within}
@@ -26,7 +26,7 @@ use Rattle.lists.specs.Records.{records_in}
 use Rattle.lists.specs.Decoding.{steps_from}
 use Rattle.fixed_meaning.specs.Fixing.{Plan, fix_segment}
 use Rattle.fixed_meaning.specs.Demand3Fixed.{ComputesFixed}
-use Rattle.fixed_meaning.specs.ProvedFixed.{with_lists, fixed-computes}
+use Rattle.fixed_meaning.proofs.ProvedFixed.{with_lists, fixed-computes}
 use Rattle.fixing.specs.Said.{SaysSegment, accepted-says, says-fixed}
 use Rattle.evaluator_cells.specs.Literals.{brought_at}
 use Rattle.evaluator.specs.Computed.{says, few-nodes, rows_few}

@@ -3,7 +3,7 @@
 use Rattle.std.specs.Prelude.{ℕ, ◌≤◌, ◌≡◌, refl, Bool, true, List, [], ◌∷◌}
 use Rattle.std.proofs.Common.{sym, ◌∙◌, ap, subst}
 use Rattle.meaning.specs.Refusals.{Answer, done}
-use Rattle.meaning.specs.Laws.Tests.{then-done, done-same, done-not-refused}
+use Rattle.meaning.proofs.Laws.Tests.{then-done, done-same, done-not-refused}
 use Rattle.frames.specs.Order.{Input}
 use Rattle.frames.specs.Reading.{reading}
 use Rattle.pool.specs.Pool.{Pool}

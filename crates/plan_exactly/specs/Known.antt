@@ -4,7 +4,7 @@ use Rattle.std.specs.Prelude.{ℕ, ◌≡◌, refl, Bool, true, false, cond, Lis
 use Rattle.std.proofs.Common.{sym, ◌∙◌, ap}
 use Rattle.std.proofs.Math.Option.{none}
 use Rattle.meaning.specs.Refusals.{Refusal, Answer, done, refused}
-use Rattle.meaning.specs.Laws.Tests.{then-done, done-same, done-not-refused}
+use Rattle.meaning.proofs.Laws.Tests.{then-done, done-same, done-not-refused}
 use Rattle.frames.specs.Order.{Input}
 use Rattle.pool.specs.Pool.{Pool}
 use Rattle.pool.specs.Numbered.{pool_of}

@@ -9,7 +9,7 @@ use native.Mathlib.Omega.{arith}
 use lib.ListN.{length, take}
 use lib.Dec.{eqb}
 use Rattle.meaning.specs.Refusals.{Refusal, number, Answer, done, refused, answer_no, ◌then◌}
-use Rattle.meaning.specs.Laws.Tests.{number-not-zero}
+use Rattle.meaning.proofs.Laws.Tests.{number-not-zero}
 use Rattle.step_dimensions.specs.StepDimensions.{Given}
 use Rattle.step_dimensions.specs.Answers.{lent}
 use Rattle.dimensions.specs.Dimensions.{dimensions}

@@ -10,7 +10,7 @@ use native.Mathlib.Omega.{arith}
 use lib.ListN.{length, take, drop}
 use Rattle.meaning.specs.Trees.{Member}
 use Rattle.meaning.specs.Refusals.{Refusal, Answer, done, refused, ◌then◌}
-use Rattle.meaning.specs.Laws.Tests.{done-not-refused}
+use Rattle.meaning.proofs.Laws.Tests.{done-not-refused}
 use Rattle.frames.specs.Tables.{first}
 use Rattle.frames.specs.declared.count.Counts.{Counts}
 use Rattle.pool.specs.Pool.{Pool}

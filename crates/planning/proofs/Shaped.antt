@@ -6,7 +6,7 @@ use mathlib.Core.Option.{Option}
 use mathlib.Core.List.{List}
 use mathlib.Core.Logic.{inl, inr}
 use Rattle.meaning.specs.Refusals.{Refusal, Answer, done, refused}
-use Rattle.meaning.specs.Laws.Tests.{done-not-refused}
+use Rattle.meaning.proofs.Laws.Tests.{done-not-refused}
 use Rattle.pool.specs.Pool.{Pool}
 use Rattle.pool.specs.Shaped.{Shaped}
 use Rattle.pool.specs.Admission.{shape, Ranked}

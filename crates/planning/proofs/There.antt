@@ -7,7 +7,7 @@ use mathlib.Core.Option.{Option, none}
 use mathlib.Core.List.{List}
 use native.Mathlib.Omega.{arith}
 use lib.ListN.{length}
-use Rattle.meaning.specs.Laws.Tests.{and_left}
+use Rattle.meaning.proofs.Laws.Tests.{and_left}
 use Rattle.meaning.specs.Refusals.{Refusal, Answer, done, refused, ◌then◌}
 use Rattle.pool.specs.Pool.{Pool}
 use Rattle.pool.specs.Admission.{shape}

@@ -7,7 +7,7 @@ use Rattle.std.proofs.Math.Bool.{true, false}
 use Rattle.std.proofs.Math.Option.{Option, none, some}
 use Rattle.meaning.specs.Trees.{Member}
 use Rattle.meaning.specs.Refusals.{Refusal, number, Answer, done, refused, answer_no, ◌then◌}
-use Rattle.meaning.specs.Laws.Tests.{true-false, number-not-zero}
+use Rattle.meaning.proofs.Laws.Tests.{true-false, number-not-zero}
 use Rattle.frames.specs.Order.{Input}
 use Rattle.pool.specs.Pool.{Pool, node}
 use Rattle.pool.specs.Shaped.{Shaped}

@@ -8,7 +8,7 @@ use mathlib.Core.List.{List}
 use mathlib.Core.Logic.{inl, inr, ⊎_elim}
 use native.Mathlib.Omega.{arith}
 use Rattle.meaning.specs.Refusals.{Refusal, Answer, done, refused}
-use Rattle.meaning.specs.Laws.Tests.{true-false, done-not-refused}
+use Rattle.meaning.proofs.Laws.Tests.{true-false, done-not-refused}
 use Rattle.meaning.specs.Trees.{◌at◌, leaves}
 use Rattle.pool.specs.Pool.{Pool, root_of}
 use Rattle.pool.specs.Trees.{tree}

@@ -5,7 +5,7 @@ use mathlib.Core.Path.{◌≡◌, refl, sym, ◌∙◌, ap, subst}
 use mathlib.Core.Option.{Option}
 use mathlib.Core.List.{List, []}
 use Rattle.meaning.specs.Refusals.{Refusal, number, Answer, done, refused, answer_no}
-use Rattle.meaning.specs.Laws.Tests.{done-same, done-not-refused}
+use Rattle.meaning.proofs.Laws.Tests.{done-same, done-not-refused}
 use Rattle.frames.specs.Order.{Input, nothing}
 use Rattle.frames.specs.Tables.{input_in}
 use Rattle.frames.specs.Tables as frames

@@ -12,7 +12,7 @@ use lib.Seq.{get_or-set_same, get_or-set_other}
 use lib.Dec.{eqb}
 use borrow.Author.Tests.{lt-ltb, le-ltb, eqb-true, eqb-false}
 use Rattle.meaning.specs.Trees.{Placed, leaves, Member}
-use Rattle.meaning.specs.Laws.Tests.{each_both}
+use Rattle.meaning.proofs.Laws.Tests.{each_both}
 use Rattle.pool.specs.Words.{root_in}
 use Rattle.pool.specs.Pool.{Pool, root_of}
 use Rattle.pool.specs.Trees.{tree}

@@ -12,7 +12,7 @@ use lib.ListN.{length, get_or, set, replicate, length-set, length-replicate}
 use lib.Dec.{eqb, ltb}
 use borrow.Author.Tests.{lt-ltb, le-ltb, eqb-true, eqb-false, eq-eqb}
 use Rattle.meaning.specs.Trees.{Placed, leaves}
-use Rattle.meaning.specs.Laws.Tests.{true-false}
+use Rattle.meaning.proofs.Laws.Tests.{true-false}
 use Rattle.pool.specs.Words.{root_in}
 use Rattle.pool.specs.Pool.{Pool, root_of}
 use Rattle.pool.specs.Trees.{tree}

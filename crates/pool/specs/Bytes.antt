@@ -4,7 +4,7 @@ use Rattle.std.specs.Prelude.{ℕ, ◌≡◌, refl, List, [], ◌⊎◌, ◌↔�
 use Rattle.std.proofs.Common.{sym, ◌∙◌, ap, subst, inl, inr, ⊎_elim, arith}
 use Rattle.meaning.specs.Refusals.{number, Answer, done, refused, answer_no}
 use Rattle.meaning.specs.Trees.{Acyclic}
-use Rattle.meaning.specs.Laws.Tests.{done-same, done-not-refused, number-not-zero}
+use Rattle.meaning.proofs.Laws.Tests.{done-same, done-not-refused, number-not-zero}
 use Rattle.frames.specs.Order.{Input, nothing}
 use Rattle.frames.specs.Reading.{frames_in, read_from, reading}
 use Rattle.frames.specs.Text.{text_frames, reading_text}

@@ -7,7 +7,7 @@ use Rattle.kinds.specs.Kinds.{carries_literal}
 use Rattle.kinds.specs.Write.{write, write-is}
 use Rattle.meaning.specs.Refusals.{Answer, done, refused, ◌then◌}
 use Rattle.meaning.specs.Trees.{Each}
-use Rattle.meaning.specs.Laws.Tests.{and_left, and_right, each-join}
+use Rattle.meaning.proofs.Laws.Tests.{and_left, and_right, each-join}
 use Rattle.frames.specs.Nodes.{kind_byte, next_byte, id_field, count_byte, head_ok, literal_ok, child_of, sign_of, magnitude_of, node_size, node_ok, node_from}
 use Rattle.frames.specs.Rest.{expression_from, request_from}
 use Rattle.frames.specs.Frames.{Item, node, expression, request, frame_of}

@@ -14,7 +14,7 @@ use Rattle.meaning.specs.Demand3.{Throughout, Fed}
 use Rattle.meaning.specs.Generation.{State}
 use Rattle.meaning.specs.Steps.{Step}
 use Rattle.meaning.specs.Building.{Segment, segment, whole}
-use Rattle.meaning.specs.Laws.Tests.{done-same, done-not-refused, and_left, and_right}
+use Rattle.meaning.proofs.Laws.Tests.{done-same, done-not-refused, and_left, and_right}
 use Rattle.frames.specs.Order.{Input}
 use Rattle.frames.specs.Reading.{reading}
 use Rattle.frames.specs.Taking.{Bytes}

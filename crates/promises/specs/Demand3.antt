@@ -14,7 +14,7 @@ use Rattle.meaning.specs.Steps.{Step}
 use Rattle.meaning.specs.Generation.{Request}
 use Rattle.meaning.specs.Building.{Segment}
 use Rattle.meaning.specs.Demand3.{NoResult, PlainLeaf, Throughout, AllGiven, Fed, Computes}
-use Rattle.meaning.specs.Laws.Tests.{done-same, done-not-refused, number-not-zero, each-join}
+use Rattle.meaning.proofs.Laws.Tests.{done-same, done-not-refused, number-not-zero, each-join}
 use Rattle.frames.specs.Order.{Input}
 use Rattle.frames.specs.Reading.{reading}
 use Rattle.frames.specs.Taking.{Bytes}

@@ -10,7 +10,7 @@ use Rattle.meaning.specs.Trees.{Acyclic, Each}
 use Rattle.meaning.specs.Values.{bind}
 use Rattle.meaning.specs.Building.{Segment}
 use Rattle.meaning.specs.Demand3.{Throughout, Fed}
-use Rattle.meaning.specs.Laws.Tests.{number-not-zero}
+use Rattle.meaning.proofs.Laws.Tests.{number-not-zero}
 use Rattle.frames.specs.Order.{Input, counts_of, expression_limit}
 use Rattle.frames.specs.Reading.{reading}
 use Rattle.frames.specs.Limits.{within}

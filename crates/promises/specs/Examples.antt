@@ -4,7 +4,7 @@
 use Rattle.std.specs.Prelude.{◌≡◌, List, [], ◌∷◌, ◌++◌}
 use Rattle.meaning.specs.Refusals.{done, ◌then◌}
 use Rattle.meaning.specs.Trees.{Each}
-use Rattle.meaning.specs.Laws.Tests.{each-join}
+use Rattle.meaning.proofs.Laws.Tests.{each-join}
 use Rattle.meaning.specs.Examples as generation
 use Rattle.sections.specs.Examples as sections
 use Rattle.step_dimensions.specs.StepDimensions.{Given, unwritten}

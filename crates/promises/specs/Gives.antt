@@ -5,7 +5,7 @@ use Rattle.frames.specs.Exactly as frames
 use Rattle.pool.specs.Trees.{forest}
 use Rattle.pool.specs.Numbered.{pool_of}
 use Rattle.planning.specs.Ways as plan
-use Rattle.search_meaning.specs.SearchCases.{Row}
+use Rattle.search_meaning.proofs.SearchCases.{Row}
 use Rattle.answers.specs.Ways.{OfPool, ServeRead, BuildRead, Ran, EvaluateRead, Mapped, Fixed, Queried, Dimensioned}
 use Rattle.sets.specs.Members.{members}
 use Rattle.constraint_frames.specs.Extension.{asking}

@@ -14,7 +14,7 @@ use Rattle.meaning.specs.Refusals.{Answer, done, refused, answer_no, ◌then◌}
 use Rattle.meaning.specs.Trees.{RowKind, Op, Leaf, Expr, Expression, Forest, Acyclic, nth, Each, leaves, Falls}
 use Rattle.meaning.specs.Steps.{Kind, Cell, Ref, StepOp, Step, step, tmp_ref, exp_cell}
 use Rattle.meaning.specs.Building.{Segment, whole}
-use Rattle.meaning.specs.Laws.Tests.{done-not-refused, number-not-zero}
+use Rattle.meaning.proofs.Laws.Tests.{done-not-refused, number-not-zero}
 use Rattle.frames.specs.Nodes.{u64_at, child_of, sign_of, magnitude_of, node_size, head_ok, literal_ok, node_ok, node_from, node_of}
 use Rattle.frames.specs.Rest.{expression_ok, expression_from, expression_of, request_ok, request_from, request_of}
 use Rattle.frames.specs.Frames.{frame_of}

@@ -12,7 +12,7 @@ use Rattle.meaning.specs.Steps.{Step, exp_cell}
 use Rattle.meaning.specs.Running.{Store, empty}
 use Rattle.meaning.specs.Generation.{Request}
 use Rattle.meaning.specs.Demand3.{HeldFor, Computes}
-use Rattle.meaning.specs.Laws.Tests.{number-not-zero, then-done, each_map}
+use Rattle.meaning.proofs.Laws.Tests.{number-not-zero, then-done, each_map}
 use Rattle.frames.specs.Order.{Input}
 use Rattle.frames.specs.Reading.{reading}
 use Rattle.pool.specs.Trees.{forest}

@@ -12,7 +12,7 @@ use Rattle.kinds.specs.Range.{within, within_in, within-below, within-above}
 use Rattle.kinds.specs.declared.reference.Reference.{Reference}
 use Rattle.kinds.specs.declared.step.Step.{Step}
 use Rattle.meaning.specs.Trees.{Each}
-use Rattle.meaning.specs.Laws.Tests.{true-false, each_map}
+use Rattle.meaning.proofs.Laws.Tests.{true-false, each_map}
 use Rattle.lent_lists.specs.Verdicts.{Verdict, fine, malformed, not_there, no_rule, verdict_no, first_of, only}
 use Rattle.lent_lists.specs.Records.{segment_in, good_lists}
 use Rattle.lent_lists.specs.Walks.{walked, record_verdict}

@@ -14,7 +14,7 @@ use Rattle.meaning.specs.Trees.{Forest, Acyclic}
 use Rattle.meaning.specs.Order.{Job, Asked}
 use Rattle.meaning.specs.Generation.{make}
 use Rattle.meaning.specs.Asking.{ask_all}
-use Rattle.meaning.specs.Laws.Tests.{true-false, and_left, and_right}
+use Rattle.meaning.proofs.Laws.Tests.{true-false, and_left, and_right}
 use Rattle.kinds.specs.Write.{write}
 use Rattle.kinds.specs.Steps.{step_size}
 use Rattle.frames.specs.Order.{node_limit}

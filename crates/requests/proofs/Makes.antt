@@ -16,7 +16,7 @@ use Rattle.meaning.specs.Emission.{emit}
 use Rattle.meaning.specs.Order.{Job}
 use Rattle.meaning.specs.Generation.{make}
 use Rattle.meaning.specs.Building.{every}
-use Rattle.meaning.specs.Laws.Requests.{every_append}
+use Rattle.meaning.proofs.Laws.Requests.{every_append}
 use Rattle.kinds.specs.Write.{write, write-none, write-append}
 use Rattle.kinds.specs.Steps.{step_size}
 use Rattle.frames.specs.Tables.{expression_in}

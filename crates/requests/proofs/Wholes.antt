@@ -16,7 +16,7 @@ use Rattle.meaning.specs.Generation.{Request, start, make, adding}
 use Rattle.meaning.specs.Building.{Segment, segment}
 use Rattle.meaning.specs.Demand3.{NoResult}
 use Rattle.meaning.specs.Asking.{ask_all}
-use Rattle.meaning.specs.Laws.Once.{all_found}
+use Rattle.meaning.proofs.Laws.Once.{all_found}
 use Rattle.kinds.specs.Steps.{step_size}
 use Rattle.frames.specs.declared.count.Counts.{Counts}
 use Rattle.pool.specs.Trees.{forest}

@@ -9,8 +9,8 @@ use Rattle.meaning.specs.Models.{integers, modulo}
 use Rattle.meaning.specs.Generation.{start, serve_all}
 use Rattle.meaning.specs.Building.{Segment, whole}
 use Rattle.meaning.specs.Demand3.{PlainLeaf, Throughout, AllGiven, Computes}
-use Rattle.meaning.specs.Proved.{demand3}
-use Rattle.meaning.specs.Laws.Tests.{then-done, done-same, done-not-refused}
+use Rattle.meaning.proofs.Proved.{demand3}
+use Rattle.meaning.proofs.Laws.Tests.{then-done, done-same, done-not-refused}
 use Rattle.frames.specs.Order.{Input}
 use Rattle.frames.specs.Reading.{reading}
 use Rattle.frames.specs.Text.{reading_text}

@@ -9,9 +9,9 @@ use Rattle.meaning.specs.Trees.{Acyclic, Each, Forest}
 use Rattle.meaning.specs.Generation.{start, serve_all}
 use Rattle.meaning.specs.Building.{Segment}
 use Rattle.meaning.specs.Conditions.{Refused3, Refused5, FirstRefused, NoneRefused}
-use Rattle.meaning.specs.Exactly.{all_3, all_5, all_0, plain-only, whole-number}
-use Rattle.meaning.specs.Laws.Tests.{done-same, done-not-refused, number-not-zero}
-use Rattle.meaning.specs.Laws.Standing.{start-stepped}
+use Rattle.meaning.proofs.Exactly.{all_3, all_5, all_0, plain-only, whole-number}
+use Rattle.meaning.proofs.Laws.Tests.{done-same, done-not-refused, number-not-zero}
+use Rattle.meaning.proofs.Laws.Standing.{start-stepped}
 use Rattle.kinds.specs.Steps.{step_size}
 use Rattle.frames.specs.Order.{Input, nothing, counts_of}
 use Rattle.frames.specs.Reading.{read_from}

@@ -14,9 +14,9 @@ use Rattle.meaning.specs.Order.{Job, Asked, asked}
 use Rattle.meaning.specs.Generation.{make_one, make}
 use Rattle.meaning.specs.Building.{every}
 use Rattle.meaning.specs.Asking.{ask_all}
-use Rattle.meaning.specs.Laws.Tests.{each-join, each_both}
-use Rattle.meaning.specs.Laws.Requests.{every_append}
-use Rattle.meaning.specs.Laws.Once.{Chain, all_once, all-rows, all_found}
+use Rattle.meaning.proofs.Laws.Tests.{each-join, each_both}
+use Rattle.meaning.proofs.Laws.Requests.{every_append}
+use Rattle.meaning.proofs.Laws.Once.{Chain, all_once, all-rows, all_found}
 use Rattle.kinds.specs.Write.{write-there}
 use Rattle.frames.specs.Tables.{first}
 use Rattle.pool.specs.Trees.{forest}

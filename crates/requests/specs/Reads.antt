@@ -5,7 +5,7 @@ use Rattle.std.proofs.Math.Path.{refl}
 use Rattle.std.proofs.Common.{sym, ◌∙◌, ap, subst}
 use Rattle.std.proofs.Math.Option.{Option}
 use Rattle.meaning.specs.Refusals.{Refusal, Answer, done, refused}
-use Rattle.meaning.specs.Laws.Tests.{done-same, done-not-refused}
+use Rattle.meaning.proofs.Laws.Tests.{done-same, done-not-refused}
 use Rattle.meaning.specs.Generation as meaning
 use Rattle.meaning.specs.Building.{Segment}
 use Rattle.frames.specs.Order.{Input, nothing, blame_answer}

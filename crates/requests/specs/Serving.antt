@@ -11,8 +11,8 @@ use Rattle.meaning.specs.Building.{Segment, every, segment, whole}
 use Rattle.meaning.specs.Demand3.{NoResult}
 use Rattle.meaning.specs.Asking.{ask_all}
 use Rattle.meaning.specs.Holding.{serve_all-asks}
-use Rattle.meaning.specs.Laws.Tests.{then-done, done-same, done-not-refused}
-use Rattle.meaning.specs.Laws.Once.{all_found}
+use Rattle.meaning.proofs.Laws.Tests.{then-done, done-same, done-not-refused}
+use Rattle.meaning.proofs.Laws.Once.{all_found}
 use Rattle.kinds.specs.Steps.{step_size}
 use Rattle.frames.specs.Order.{Input, node_limit}
 use Rattle.frames.specs.declared.rest.Request as frame

@@ -4,7 +4,7 @@ use Rattle.std.specs.Prelude.{ℕ, zero, suc, ◌+◌, ◌<◌, max, ◌≡◌, 
 use Rattle.std.proofs.Common.{sym, ◌∙◌, ap, ap₂, arith}
 use Rattle.std.proofs.Math.Option.{Option, some}
 use Rattle.meaning.specs.Trees.{RowKind, FlatKind, XKind, Op, Leaf, Expr, Expression, Forest, nth, Placed, ◌at◌, leaves, Each, Falls, Acyclic}
-use Rattle.meaning.specs.Laws.Tests.{each_left, each_right, each_map}
+use Rattle.meaning.proofs.Laws.Tests.{each_left, each_right, each_map}
 use Rattle.search_meaning.specs.Degrees.{class_of, map₂, sum_degree, full_leaf, full, full_of, full_table}
 
 -- f and g agree on the expression that a leaf leads to

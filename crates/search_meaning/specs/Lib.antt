@@ -3,7 +3,4 @@ pub mod Degrees
 pub mod Levels
 pub mod Search
 pub mod Fold
-pub mod Unlimited
-pub mod SearchExactly
-pub mod SearchCases
 pub mod SearchExamples

@@ -3,6 +3,5 @@ pub mod Sums
 pub mod Sections
 pub mod Answer
 pub mod Groups
-pub mod Laws
 pub mod Exactly
 pub mod Examples

@@ -10,7 +10,7 @@ use borrow.Author.Tests.{lt-ltb}
 use Rattle.meaning.specs.Trees.{Leaf, Placed, ◌at◌, leaves, Each}
 use Rattle.meaning.specs.Refusals.{done}
 use Rattle.meaning.specs.Order.{in_rows, own}
-use Rattle.meaning.specs.Laws.Jobs.{InRows}
+use Rattle.meaning.proofs.Laws.Jobs.{InRows}
 use Rattle.kinds.specs.KindBytes as kind
 use Rattle.frames.specs.declared.node.Node.{Node}
 use Rattle.frames.specs.Tables.{node_in}

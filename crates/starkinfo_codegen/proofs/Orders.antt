@@ -16,9 +16,9 @@ use Rattle.meaning.specs.Refusals.{Refusal, Answer, done, refused, ◌then◌}
 use Rattle.meaning.specs.Trees.{Leaf, Forest, Falls, Acyclic, nth, Placed, ◌at◌, leaves, Each}
 use Rattle.meaning.specs.Trees as meaning
 use Rattle.meaning.specs.Order.{Marks, marking, Job, Asked, nothing, asked, primed, own, ask_leaf, ask_leaves, ask_below}
-use Rattle.meaning.specs.Laws.Tests.{true-false, each_left, each_right, each-join}
-use Rattle.meaning.specs.Laws.Fuse.{asked-leaves}
-use Rattle.meaning.specs.Laws.Jobs.{InRows}
+use Rattle.meaning.proofs.Laws.Tests.{true-false, each_left, each_right, each-join}
+use Rattle.meaning.proofs.Laws.Fuse.{asked-leaves}
+use Rattle.meaning.proofs.Laws.Jobs.{InRows}
 use Rattle.kinds.specs.KindBytes as kind
 use Rattle.kinds.specs.Write.{write, write-none, write-next}
 use Rattle.frames.specs.declared.node.Node.{Node}

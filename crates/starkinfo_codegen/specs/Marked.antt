@@ -8,8 +8,8 @@ use Rattle.std.proofs.Math.Dec.{eqb}
 use borrow.Author.Tests.{eq-eqb, lt-ltb, eqb-true, eqb-false, ltb-true, ltb-false}
 use Rattle.meaning.specs.Trees.{Each}
 use Rattle.meaning.specs.Order.{marking, Job}
-use Rattle.meaning.specs.Laws.Tests.{true-false}
-use Rattle.meaning.specs.Laws.Once.{Chain}
+use Rattle.meaning.proofs.Laws.Tests.{true-false}
+use Rattle.meaning.proofs.Laws.Once.{Chain}
 use Rattle.pool.specs.Ranking.{zeros}
 use Rattle.starkinfo_codegen.specs.Ordering.{cell_of, marks_of}
 

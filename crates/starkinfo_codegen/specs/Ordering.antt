@@ -6,7 +6,7 @@ use Rattle.std.proofs.Math.Option.{some}
 use Rattle.meaning.specs.Refusals.{Refusal, Answer, done, refused}
 use Rattle.meaning.specs.Trees.{Placed, leaves, Each, Forest, Falls, Acyclic}
 use Rattle.meaning.specs.Order.{Marks, Job, Asked, primed, own, ask_leaves, ask_below}
-use Rattle.meaning.specs.Laws.Jobs.{InRows}
+use Rattle.meaning.proofs.Laws.Jobs.{InRows}
 use Rattle.kinds.specs.Write.{write}
 use Rattle.frames.specs.Tables.{node_in}
 use Rattle.pool.specs.Trees.{leaf_of, forest}

@@ -16,7 +16,7 @@ use Rattle.meaning.specs.Fusing.{second, first, fuse}
 use Rattle.meaning.specs.Steps.{Ref}
 use Rattle.meaning.specs.Emission.{emit, block_steps}
 use Rattle.meaning.specs.Order.{asked}
-use Rattle.meaning.specs.Laws.Tests.{each-join, each_map}
+use Rattle.meaning.proofs.Laws.Tests.{each-join, each_map}
 use Rattle.frames.specs.declared.node.Node.{Node}
 use Rattle.frames.specs.declared.rest.Expression.{Expression}
 use Rattle.meaning.specs.Trees.{nth}

@@ -12,8 +12,8 @@ use Rattle.meaning.specs.Order.{Marks, marking, Job, Asked, asked}
 use Rattle.meaning.specs.Generation.{Request, Made, block_of, make}
 use Rattle.meaning.specs.Building.{every}
 use Rattle.meaning.specs.Asking.{ask_all}
-use Rattle.meaning.specs.Laws.Tests.{true-false, or_right, each_map}
-use Rattle.meaning.specs.Laws.Once.{Chain, all_once, all-rows, all_found}
+use Rattle.meaning.proofs.Laws.Tests.{true-false, or_right, each_map}
+use Rattle.meaning.proofs.Laws.Once.{Chain, all_once, all-rows, all_found}
 use Rattle.frames.specs.declared.rest.Expression.{Expression}
 use Rattle.frames.specs.Order.{node_limit}
 use Rattle.pool.specs.Pool.{Pool, or_else, root_of, root_uses, times}

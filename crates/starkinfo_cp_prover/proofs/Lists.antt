@@ -10,7 +10,7 @@ use borrow.Author.Tests.{leb-true}
 use Rattle.kinds.specs.Kinds.{is_node_kind}
 use Rattle.meaning.specs.Refusals.{Answer, done, refused, ◌then◌}
 use Rattle.meaning.specs.Trees.{Acyclic}
-use Rattle.meaning.specs.Laws.Tests.{and_left, and_right, done-same, done-not-refused}
+use Rattle.meaning.proofs.Laws.Tests.{and_left, and_right, done-same, done-not-refused}
 use Rattle.frames.specs.Nodes.{head_ok}
 use Rattle.frames.specs.Order.{expression_limit}
 use Rattle.frames.specs.Written.{WellNode, All}

@@ -8,7 +8,7 @@ use Rattle.std.proofs.Math.Option.{Option, none}
 use Rattle.meaning.specs.Refusals.{Refusal, Answer, done, refused, ◌then◌}
 use Rattle.meaning.specs.Trees.{Forest}
 use Rattle.meaning.specs.Generation.{State}
-use Rattle.meaning.specs.Laws.Tests.{then-done, done-same, done-not-refused}
+use Rattle.meaning.proofs.Laws.Tests.{then-done, done-same, done-not-refused}
 use Rattle.frames.specs.Order.{expression_limit, Input}
 use Rattle.frames.specs.Reading.{reading}
 use Rattle.pool.specs.Pool.{Pool}

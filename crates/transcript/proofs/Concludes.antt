@@ -8,7 +8,7 @@ use lib.ListN.{length}
 use Rattle.meaning.specs.Refusals.{Refusal, Answer, done, refused, ◌then◌}
 use Rattle.meaning.specs.Trees.{Each}
 use Rattle.meaning.specs.Building.{Segment}
-use Rattle.meaning.specs.Laws.Tests.{done-not-refused}
+use Rattle.meaning.proofs.Laws.Tests.{done-not-refused}
 use Rattle.frames.specs.Tables.{Tables, input_in}
 use Rattle.frames.specs.Reading.{held}
 use Rattle.frames.specs.Text.{reading_text}

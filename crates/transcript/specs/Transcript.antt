@@ -9,7 +9,7 @@ use native.Mathlib.Omega.{arith}
 use borrow.Author.Tests.{ne_eqb, lt-ltb, le-ltb}
 use Rattle.meaning.specs.Refusals.{number, Answer, done, refused, ◌then◌}
 use Rattle.meaning.specs.Building.{Segment}
-use Rattle.meaning.specs.Laws.Tests.{number-not-zero, done-not-refused}
+use Rattle.meaning.proofs.Laws.Tests.{number-not-zero, done-not-refused}
 use Rattle.kinds.specs.Steps.{step_size, step_at, steps_of, steps-none, steps-more, steps-joined}
 use Rattle.kinds.specs.Write.{write}
 use Rattle.frames.specs.Order.{Input}

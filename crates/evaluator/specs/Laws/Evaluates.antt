@@ -5,7 +5,7 @@ use Rattle.std.proofs.Common.{sym, ◌∙◌, ap, subst}
 use Rattle.std.proofs.Math.Option.{Option, none}
 use borrow.Author.Tests.{leb-true}
 use Rattle.meaning.specs.Refusals.{Refusal, Answer, done, refused}
-use Rattle.meaning.specs.Laws.Tests.{and_left, and_right, done-same, done-not-refused, true-false}
+use Rattle.meaning.proofs.Laws.Tests.{and_left, and_right, done-same, done-not-refused, true-false}
 use Rattle.frames.specs.Order.{Input, blame_answer, node_limit}
 use Rattle.frames.specs.Tables.{Tables, input_in}
 use Rattle.frames.specs.Reading.{held}

@@ -13,10 +13,10 @@ use Rattle.meaning.specs.Building.{Segment, every, segment, whole}
 use Rattle.meaning.specs.Demand3.{NoResult}
 use Rattle.meaning.specs.Asking.{ask_one, ask_all}
 use Rattle.meaning.specs.Holding.{serve_all-asks}
-use Rattle.meaning.specs.Laws.Tests.{each_left, each_right, each-join, then-done, done-same}
-use Rattle.meaning.specs.Laws.Jobs.{InRows, AllFine, asks}
-use Rattle.meaning.specs.Laws.Fuse.{asked-leaves}
-use Rattle.meaning.specs.Laws.Once.{all-rows}
+use Rattle.meaning.proofs.Laws.Tests.{each_left, each_right, each-join, then-done, done-same}
+use Rattle.meaning.proofs.Laws.Jobs.{InRows, AllFine, asks}
+use Rattle.meaning.proofs.Laws.Fuse.{asked-leaves}
+use Rattle.meaning.proofs.Laws.Once.{all-rows}
 use Rattle.frames.specs.Order.{node_limit}
 use Rattle.pool.specs.Pool.{Pool}
 use Rattle.pool.specs.Trees.{forest}

@@ -10,8 +10,8 @@ use Rattle.meaning.specs.Values.{Algebra, Given}
 use Rattle.meaning.specs.Steps.{Cell, same, place, Ref, Step}
 use Rattle.meaning.specs.Running as running
 use Rattle.meaning.specs.Running.{Store, writable, computes, exec, run}
-use Rattle.meaning.specs.Laws.Tests.{bind-some, each-join, each_map}
-use Rattle.meaning.specs.Laws.Cells.{same_eq, same_refl}
+use Rattle.meaning.proofs.Laws.Tests.{bind-some, each-join, each_map}
+use Rattle.meaning.proofs.Laws.Cells.{same_eq, same_refl}
 use Rattle.evaluator_run.specs.Evaluation.{is_among, adding, writing, written_after, Valued, valued_by}
 
 member-left : {A : Type 0} (a : A) (xs ys : List A) → Member a xs → Member a (xs ++ ys)

@@ -7,7 +7,7 @@ use Rattle.kinds.specs.Range.{false-over}
 use Rattle.meaning.specs.Trees.{RowKind, FlatKind, XKind}
 use Rattle.meaning.specs.Steps.{BareKind, Kind, kind_no, Cell, place}
 use Rattle.meaning.specs.Running.{writable, before}
-use Rattle.meaning.specs.Laws.Cells.{kind-same}
+use Rattle.meaning.proofs.Laws.Cells.{kind-same}
 use Rattle.evaluator_cells.specs.Given.{Lent, given}
 use Rattle.evaluator_cells.specs.Cells.{id_limit, key_no, writable_no}
 use Rattle.evaluator_cells.specs.Keyed.{key_limit}

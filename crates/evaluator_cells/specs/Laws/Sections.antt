@@ -8,7 +8,7 @@ use Rattle.std.proofs.Common.{add-one, length-take, length-drop, get_or-take, ge
 use native.Mathlib.Omega.{arith}
 use Rattle.std.proofs.Math.ListN.{length}
 use borrow.Author.Tests.{lt-leb, le-leb, ne_eqb, eqb-true, leb-true, lt-ltb, le-ltb}
-use Rattle.meaning.specs.Laws.Tests.{and_left, and_right}
+use Rattle.meaning.proofs.Laws.Tests.{and_left, and_right}
 use Rattle.evaluator_cells.specs.Given.{section_count, start_of, good_values, section, word_at}
 
 module _ (ws : List ℕ) where

@@ -20,7 +20,7 @@ use Rattle.meaning.specs.Values.{bind}
 use Rattle.meaning.specs.Models.{modulo}
 use Rattle.meaning.specs.Steps.{kind_no, Cell, Step}
 use Rattle.meaning.specs.Running.{Store, empty, run}
-use Rattle.meaning.specs.Laws.Tests.{true-false, and_left, and_right, each-join}
+use Rattle.meaning.proofs.Laws.Tests.{true-false, and_left, and_right, each-join}
 use Rattle.evaluator_cells.specs.Literals.{NumbersOf}
 use Rattle.evaluator_cells.specs.Given.{Lent, lent, given}
 use Rattle.lists.specs.Records.{record_count, records_in, good_record, good_records, good_list}

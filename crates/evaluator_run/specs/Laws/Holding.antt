@@ -12,8 +12,8 @@ use Rattle.meaning.specs.Trees.{nth}
 use Rattle.meaning.specs.Steps.{Cell, same}
 use Rattle.meaning.specs.Running as running
 use Rattle.meaning.specs.Running.{Store, empty}
-use Rattle.meaning.specs.Laws.Cells.{same_refl, same_eq}
-use Rattle.meaning.specs.Laws.Tests.{not-true, nth-below}
+use Rattle.meaning.proofs.Laws.Cells.{same_refl, same_eq}
+use Rattle.meaning.proofs.Laws.Tests.{not-true, nth-below}
 use Rattle.evaluator_cells.specs.Cells.{cell_limit, id_in, index_of}
 use Rattle.evaluator_run.specs.Evaluation.{is_among, adding}
 use Rattle.evaluator_step.specs.Machine.{Table, table, Kept, value_at, lookup, Outcome, next, no_rule, over, stored_at, stored}

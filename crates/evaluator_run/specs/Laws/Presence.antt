@@ -17,8 +17,8 @@ use Rattle.meaning.specs.Models.{modulo}
 use Rattle.meaning.specs.Steps.{BareKind, Kind, kind_no, Cell, same, place, Ref, StepOp, Step, step}
 use Rattle.meaning.specs.Running as running
 use Rattle.meaning.specs.Running.{Store, empty, writable, either, read, read_all, computes, apply, exec, run}
-use Rattle.meaning.specs.Laws.Cells.{same_eq, same_refl}
-use Rattle.meaning.specs.Laws.Tests.{and_left, and_right, true-false}
+use Rattle.meaning.proofs.Laws.Cells.{same_eq, same_refl}
+use Rattle.meaning.proofs.Laws.Tests.{and_left, and_right, true-false}
 use Rattle.evaluator_cells.specs.Given.{Lent, given}
 use Rattle.lists.specs.Records.{counted_in, good_reference, good_references, good_record}
 use Rattle.lists.specs.Decoding.{kind_from, op_from, ref_from, refs_from, step_from, steps_from}

@@ -18,7 +18,7 @@ use Rattle.meaning.specs.Models.{modulo}
 use Rattle.meaning.specs.Steps.{Kind, kind_no, Cell, place, Ref, StepOp, Step, step}
 use Rattle.meaning.specs.Running as running
 use Rattle.meaning.specs.Running.{Store, writable, either, read, read_all, computes, exec, run}
-use Rattle.meaning.specs.Laws.Tests.{and_left, and_right}
+use Rattle.meaning.proofs.Laws.Tests.{and_left, and_right}
 use Rattle.evaluator_cells.specs.Literals.{Reduced, NumbersOf}
 use Rattle.evaluator_cells.specs.Given.{Lent, given}
 use Rattle.lists.specs.Records.{counted_in, good_reference, good_references, good_record}

@@ -7,7 +7,7 @@ use Rattle.kinds.specs.KindBytes as kind
 use Rattle.kinds.specs.Kinds.{is_reference, is_leaf}
 use Rattle.kinds.specs.Range.{within, within-above, true-over}
 use Rattle.meaning.specs.Steps.{Kind, kind_no}
-use Rattle.meaning.specs.Laws.Tests.{true-false}
+use Rattle.meaning.proofs.Laws.Tests.{true-false}
 use Rattle.lists.specs.Decoding.{kind_from}
 
 abbrev is_back : Option Kind → ℕ → Bool

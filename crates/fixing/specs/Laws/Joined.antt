@@ -20,10 +20,10 @@ use Rattle.meaning.specs.Trees.{Lit, Each, up_to}
 use Rattle.meaning.specs.Values.{bind}
 use Rattle.meaning.specs.Steps.{Kind, Cell, Ref, StepOp, Step, step}
 use Rattle.meaning.specs.Building.{Segment}
-use Rattle.meaning.specs.Laws.Tests.{true-false, and_left, and_right, bind-some}
+use Rattle.meaning.proofs.Laws.Tests.{true-false, and_left, and_right, bind-some}
 use Rattle.fixed_meaning.specs.Fixing.{Plan, Map, Fixing, begin, become, rename_ref, fix_cell, meet_cell, meet, fix_refs, fix_step, fix_list, fix_end, fix_segment}
 use Rattle.fixed_meaning.specs.Renaming.{rename_refs, rename_step, rename}
-use Rattle.fixed_meaning.specs.FixingLaws.{segment_renamed}
+use Rattle.fixed_meaning.proofs.FixingLaws.{segment_renamed}
 use Rattle.lent_lists.specs.Verdicts.{fine}
 use Rattle.lent_lists.specs.Laws.Records.{record-used}
 use Rattle.lists.specs.Records.{record_count, records_in, counted_in, good_reference, good_record, good_records, good_list}

@@ -14,7 +14,7 @@ use Rattle.kinds.specs.References.{ref_at}
 use Rattle.kinds.specs.Steps.{step_size, step_at, steps_of, steps-none, steps-more}
 use Rattle.kinds.specs.declared.reference.Reference.{Reference}
 use Rattle.meaning.specs.Trees.{Each}
-use Rattle.meaning.specs.Laws.Tests.{true-false, and_left, and_right, each-join}
+use Rattle.meaning.proofs.Laws.Tests.{true-false, and_left, and_right, each-join}
 use Rattle.fixed_meaning.specs.Fixing.{Fixing, begin}
 use Rattle.lent_lists.specs.Verdicts.{Verdict, fine, malformed, not_there, no_rule, full, verdict_no, first_of, only}
 use Rattle.lists.specs.Records.{record_count, records_in, good_reference, good_record, good_records, good_list}

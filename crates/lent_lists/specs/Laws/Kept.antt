@@ -11,7 +11,7 @@ use Rattle.kinds.specs.Steps.{step_size, steps_bytes}
 use Rattle.kinds.specs.declared.reference.Reference.{Reference}
 use Rattle.kinds.specs.declared.step.Step.{Step}
 use Rattle.meaning.specs.Trees.{up_to}
-use Rattle.meaning.specs.Laws.Tests.{and_left, and_right}
+use Rattle.meaning.proofs.Laws.Tests.{and_left, and_right}
 use Rattle.lists.specs.Records.{records_in, good_reference, good_references, good_record, good_records, good_list}
 use Rattle.lent_lists.specs.Records.{used_by, record_by, mapped, rewritten}
 

@@ -8,7 +8,7 @@ use Rattle.kinds.specs.StepOps.{is_step, sources_needed}
 use Rattle.kinds.specs.declared.reference.Reference.{Reference}
 use Rattle.kinds.specs.declared.step.Step.{Step}
 use Rattle.meaning.specs.Trees.{up_to}
-use Rattle.meaning.specs.Laws.Tests.{and_left}
+use Rattle.meaning.proofs.Laws.Tests.{and_left}
 use Rattle.lists.specs.Records.{good_reference, good_references, good_record, good_list}
 use Rattle.lent_lists.specs.Records.{good_used, good_lists, runs_by, runs}
 

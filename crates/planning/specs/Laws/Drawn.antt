@@ -4,7 +4,7 @@ use Rattle.std.specs.Prelude.{ℕ, ◌≡◌, refl, Bool, true, false, List}
 use Rattle.std.proofs.Common.{sym, ◌∙◌, ap, subst}
 use Rattle.std.proofs.Math.Option.{Option, none}
 use Rattle.meaning.specs.Refusals.{Refusal, Answer, done, refused, ◌then◌}
-use Rattle.meaning.specs.Laws.Tests.{done-not-refused}
+use Rattle.meaning.proofs.Laws.Tests.{done-not-refused}
 use Rattle.frames.specs.Order.{Input}
 use Rattle.pool.specs.Pool.{Pool}
 use Rattle.pool.specs.Numbered.{pool_of}

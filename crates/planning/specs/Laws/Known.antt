@@ -9,7 +9,7 @@ use Rattle.pool.specs.Pool.{Pool}
 use Rattle.plans.specs.Plan.{cm1, cm2, cm3, q_deg, pu_count, im_count, product_count, f_of, t_of, num_of, den_of, im_of}
 use Rattle.plans.specs.Columns.{among, is_im}
 use Rattle.sections.specs.Sections.{section_count, known}
-use Rattle.sections.specs.Laws.Maps.{known-append, known-one}
+use Rattle.sections.proofs.Laws.Maps.{known-append, known-one}
 use Rattle.map_records.specs.Mapping.{Mapping, pol, pair, grown, column, cm1s, h_at, z_at, lookup, lookup_dim, lookups, products, dim_in, intermediates, quotient_dim, quotients, mapped}
 
 abbrev Known : Mapping → Type 0

@@ -3,7 +3,7 @@
 use Rattle.std.specs.Prelude.{ℕ, zero, suc, ◌+◌, ◌<◌, ◌≤◌, ◌≡◌, refl, Bool, true, false, cond, ◌⊎◌}
 use Rattle.std.proofs.Common.{sym, ◌∙◌, ap, inl, inr, ⊎_elim, eq-or-lt_of_le, arith}
 use Rattle.std.proofs.Math.Option.{none, some, none-ne-some, some-ne-none, some-injective}
-use Rattle.meaning.specs.Laws.Tests.{true-false}
+use Rattle.meaning.proofs.Laws.Tests.{true-false}
 use Rattle.pool.specs.Admission.{first_from}
 
 -- it is found: it is in range, the test holds of it and of none before

@@ -5,7 +5,7 @@ use Rattle.std.proofs.Common.{sym, ◌∙◌, ap, subst, inl, inr, arith, ne_eqb
 use Rattle.std.proofs.Math.Option.{none, some, none-ne-some, some-injective}
 use Rattle.std.proofs.lemmas.Bool.{eqb-false}
 use Rattle.meaning.specs.Trees.{RowKind, Leaf, Expr, nth, Placed, ◌at◌, leaves, Each, Member}
-use Rattle.meaning.specs.Laws.Tests.{each_map}
+use Rattle.meaning.proofs.Laws.Tests.{each_map}
 use Rattle.frames.specs.declared.node.Node.{Node}
 use Rattle.kinds.specs.KindBytes as kind
 use Rattle.kinds.specs.Kinds.{child_count}

@@ -7,7 +7,7 @@ use Rattle.std.proofs.Math.Option.{Option, none, some}
 use borrow.Author.Tests.{eqb-true, eqb-false, leb-true, leb-false, eq-eqb, not-true, not-false}
 use Rattle.meaning.specs.Refusals.{Refusal, Answer, done, refused, ◌then◌}
 use Rattle.meaning.specs.Trees.{Each, Member}
-use Rattle.meaning.specs.Laws.Tests.{and_left, and_right, true-false}
+use Rattle.meaning.proofs.Laws.Tests.{and_left, and_right, true-false}
 use Rattle.kinds.specs.KindBytes as kind
 use Rattle.kinds.specs.Kinds.{child_count}
 use Rattle.pool.specs.Pool.{Pool, node, root_of, children, uses, times}

@@ -3,7 +3,7 @@
 use Rattle.std.specs.Prelude.{ℕ, zero, suc, ◌<◌, ◌≡◌, refl, Bool, true, false, List, [], ◌∷◌, ◌++◌, ◌↔◌, length, T, eqb, ltb}
 use Rattle.std.proofs.Common.{sym, ◌∙◌, ap, ap₂, subst, append-nil, arith, eqb→eq, ne_eqb, ltb-true, ltb-false}
 use Rattle.meaning.specs.Trees.{Op, OpC, Expr, Placed, leaves, Each}
-use Rattle.meaning.specs.Laws.Tests.{each_left, each_right, each-join, each_map}
+use Rattle.meaning.proofs.Laws.Tests.{each_left, each_right, each-join, each_map}
 use Rattle.frames.specs.declared.node.Node.{Node}
 use Rattle.kinds.specs.Kinds.{child_count}
 use Rattle.kinds.specs.Range.{within, within-above, passes, pass}

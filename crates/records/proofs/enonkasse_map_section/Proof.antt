@@ -49,7 +49,7 @@ use denote.Triple.Clauses.{ensured, lasts}
 use denote.Triple.Table.{entered, cited}
 use denote.Triple.Walked.{says, Stays, stay_slice, walk_of, Goes-slice, Walks, ends_at, walked, walk_Meets}
 use Rattle.sections.specs.Groups.{count_to_read}
-use Rattle.sections.specs.Laws.Maps.{read-within}
+use Rattle.sections.proofs.Laws.Maps.{read-within}
 use Rattle.records.specs.declared.PolType.{PolType}
 use Rattle.records.specs.Columns.{bad_after, accepted_count, ColumnsMapped}
 use Rattle.records.specs.Records.{blank, moved, written, sections_of, dims_of, positions_of, RecordsMapped}

@@ -11,7 +11,7 @@ use borrow.Author.Tests.{eq-eqb, ne_eqb, eqb-true}
 use Rattle.meaning.specs.Refusals.{Refusal, Answer, done, refused, answer_no}
 use Rattle.sections.specs.Sections.{section_count, width_count, record_limit, Mapping, known, well_formed, mapping, positions_from, widths}
 use Rattle.sections.specs.Groups.{count_to_read}
-use Rattle.sections.specs.Laws.Maps.{known-append, known-one, read-front}
+use Rattle.sections.proofs.Laws.Maps.{known-append, known-one, read-front}
 use Rattle.records.specs.declared.PolType.{PolType}
 use Rattle.records.specs.Columns.{bad_after, formed, refusal_no, accepted_count, ColumnsMapped, alone, mapped}
 use Rattle.records.specs.Records.{sections_of, dims_of, positions_of, records_mapping, RecordsMapped}

@@ -1,7 +1,7 @@
 -- `sections::groups::add_record` meets its contract.
 -- Assumes nothing.
 use native.Mathlib.Omega.{arith}
-use Rattle.sections.specs.Laws.Tables.{small_at, added-at, added-not}
+use Rattle.sections.proofs.Laws.Tables.{small_at, added-at, added-not}
 use Rattle.sections.proofs.groups.add_record.Goals as goal
 
 pub overflow_add-groups : goal.overflow_add-groups

@@ -1,7 +1,7 @@
 -- `sections::groups::next_position` meets its contract.
 -- Assumes nothing.
 use native.Mathlib.Omega.{arith}
-use Rattle.sections.specs.Laws.Tables.{small_at, next-first, next-second, next-third, next-none}
+use Rattle.sections.proofs.Laws.Tables.{small_at, next-first, next-second, next-third, next-none}
 use Rattle.sections.proofs.groups.next_position.Goals as goal
 
 pub overflow_add-result : goal.overflow_add-result

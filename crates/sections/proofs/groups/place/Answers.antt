@@ -2,7 +2,7 @@
 -- Assumes nothing.
 use native.Mathlib.Omega.{arith}
 use mathlib.Core.Path.{refl, ◌∙◌}
-use Rattle.sections.specs.Laws.Tables.{tally-begin, tally-next, tallied-small, all_small, place-begin, place-next, place_end, position_is}
+use Rattle.sections.proofs.Laws.Tables.{tally-begin, tally-next, tallied-small, all_small, place-begin, place-next, place_end, position_is}
 use Rattle.sections.proofs.groups.place.Goals as goal
 
 pub loop-i-init : goal.loop-i-init

@@ -3,7 +3,7 @@
 use Prim.Native.Nat.{◌≤◌, ◌-◌}
 use lib.ListN.{length}
 use Rattle.sections.specs.Groups.{Tallied}
-use Rattle.sections.specs.Laws.Tables.{PlacedTo}
+use Rattle.sections.proofs.Laws.Tables.{PlacedTo}
 use Rattle.sections.proofs.groups.place.Given as goal
 
 abbrev pub invariant-loop-i : goal.invariant-loop-i

@@ -4,7 +4,7 @@ use mathlib.Core.Path.{refl, sym}
 use native.Mathlib.Omega.{arith}
 use lib.ListN.{length-set}
 use Rattle.kinds.specs.Write.{write-none}
-use Rattle.sections.specs.Laws.Tables.{widths-next, widths-end}
+use Rattle.sections.proofs.Laws.Tables.{widths-next, widths-end}
 use Rattle.sections.proofs.groups.put_widths.Goals as goal
 
 pub loop-s-init : goal.loop-s-init

@@ -1,7 +1,7 @@
 -- `sections::groups::tally` meets its contract: the table holds what the records before i take.
 -- Assumes nothing.
 use native.Mathlib.Omega.{arith}
-use Rattle.sections.specs.Laws.Tables.{tally-begin, tally-next, tallied-small, tally-end}
+use Rattle.sections.proofs.Laws.Tables.{tally-begin, tally-next, tallied-small, tally-end}
 use Rattle.sections.proofs.groups.tally.Goals as goal
 
 pub loop-i-init : goal.loop-i-init

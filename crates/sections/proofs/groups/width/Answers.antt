@@ -1,7 +1,7 @@
 -- `sections::groups::width` meets its contract.
 -- Assumes nothing.
 use native.Mathlib.Omega.{arith}
-use Rattle.sections.specs.Laws.Tables.{small_at, width-is-first, width-is-whole, width-is-third}
+use Rattle.sections.proofs.Laws.Tables.{small_at, width-is-first, width-is-whole, width-is-third}
 use Rattle.sections.proofs.groups.width.Goals as goal
 
 pub overflow_add-result : goal.overflow_add-result

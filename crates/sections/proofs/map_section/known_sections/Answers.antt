@@ -1,7 +1,7 @@
 -- `sections::map_section::known_sections` meets its contract: the sections before k are known.
 -- Assumes nothing.
 use native.Mathlib.Omega.{arith}
-use Rattle.sections.specs.Laws.Maps.{known-begin, known_next, known-stop, known-end}
+use Rattle.sections.proofs.Laws.Maps.{known-begin, known_next, known-stop, known-end}
 use Rattle.sections.proofs.map_section.known_sections.Goals as goal
 
 pub loop-k-init : goal.loop-k-init

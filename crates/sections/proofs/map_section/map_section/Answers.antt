@@ -1,7 +1,7 @@
 -- `sections::map_section::map_section` meets its contract: each of its answers is one law of specs/Laws/Maps.antt.
 -- Assumes nothing.
 use native.Mathlib.Omega.{arith}
-use Rattle.sections.specs.Laws.Maps.{ill-dims, ill-positions, ill-widths, ill-known, too_many_lem, records_are, mapped, read-within}
+use Rattle.sections.proofs.Laws.Maps.{ill-dims, ill-positions, ill-widths, ill-known, too_many_lem, records_are, mapped, read-within}
 use Rattle.sections.proofs.map_section.map_section.Goals as goal
 
 pub returns-then-dims-sections : goal.returns-then-dims-sections

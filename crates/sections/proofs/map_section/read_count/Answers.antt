@@ -1,6 +1,6 @@
 -- `sections::map_section::read_count` meets its contract.
 -- Assumes nothing.
-use Rattle.sections.specs.Laws.Maps.{read-few, read-many}
+use Rattle.sections.proofs.Laws.Maps.{read-few, read-many}
 use Rattle.sections.proofs.map_section.read_count.Goals as goal
 
 pub returns-then-count-le-RECORD_LIMIT : goal.returns-then-count-le-RECORD_LIMIT

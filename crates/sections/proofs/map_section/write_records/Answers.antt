@@ -1,8 +1,8 @@
 -- `sections::map_section::write_records` meets its contract.
 -- Assumes nothing.
 use native.Mathlib.Omega.{arith}
-use Rattle.sections.specs.Laws.Tables.{all_small}
-use Rattle.sections.specs.Laws.Maps.{widths-all}
+use Rattle.sections.proofs.Laws.Tables.{all_small}
+use Rattle.sections.proofs.Laws.Maps.{widths-all}
 use Rattle.sections.proofs.map_section.write_records.Goals as goal
 
 pub put_widths-requires : goal.put_widths-requires

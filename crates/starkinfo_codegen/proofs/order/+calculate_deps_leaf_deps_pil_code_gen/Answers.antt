@@ -2,7 +2,7 @@
 -- proofs/Orders.antt. The measure is the levels that are left, then the node. Assumes nothing.
 use native.Mathlib.Omega.{arith}
 use mathlib.Core.Path.{refl, sym, ◌∙◌, ap}
-use Rattle.meaning.specs.Laws.Tests.{true-false}
+use Rattle.meaning.proofs.Laws.Tests.{true-false}
 use Rattle.starkinfo_codegen.proofs.Orders.{rank-some, neither, past-needs, past-quiet, other-needs, leaf-quiet, exp-out, exp-asks, exp-gives, child-falls, first_less, first-asks, first_stops, only-gives, only-quiet, second_less, second-asks, second-stops, both-gives, both-quiet, third_less, third-asks, third-gives, third-quiet, cell-there, marked-gives, deps_asks, deps_less, quiet-own, out-asks, deps_stop, out-stop, marks-room, jobs-room, own-made}
 use Rattle.starkinfo_codegen.proofs.order.+calculate_deps_leaf_deps_pil_code_gen.Goals as goal
 

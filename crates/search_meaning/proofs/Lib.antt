@@ -1,0 +1,3 @@
+pub mod Unlimited
+pub mod SearchExactly
+pub mod SearchCases
