@@ -1,7 +1,7 @@
 -- Blocks of tables with the closing product or without: their words, their steps, and their bytes. No word of the code.
 -- Assumes nothing.
 use Prim.Native.Nat.{ℕ, zero, suc, ◌+◌, ◌*◌, ◌-◌, ◌<◌, ◌≤◌}
-use mathlib.Core.Path.{◌≡◌, refl, sym, ◌∙◌, ap}
+use mathlib.Core.Path.{◌≡◌, refl, ◌∙◌, ap}
 use mathlib.Core.Bool.{Bool, true, false}
 use mathlib.Core.List.{List}
 use native.Mathlib.Omega.{arith}
@@ -9,10 +9,10 @@ use lib.ListN.{length, get_or, drop, length-set}
 use Rattle.kinds.specs.Steps.{step_size}
 use Rattle.frames.specs.Tables.{first}
 use Rattle.builds.specs.Raw.{steps_in, start_of, raw_blocks, every}
-use Rattle.builds.specs.Starts.{start-next, start-le}
+use Rattle.builds.specs.Starts.{start-next}
 use Rattle.builds.specs.Results.{GrowAsks}
 use Rattle.codegen.specs.Written.{raw-steps}
-use Rattle.constraint_pieces.specs.Closed.{grown, closed_list, PutAsks, grown-start, closed-count, closed-put}
+use Rattle.constraint_pieces.specs.Closed.{grown, closed_list, grown-start, closed-count, closed-put}
 use Rattle.constraint_pieces.proofs.Closes.{closed-size, closed-past}
 use Rattle.constraint_lists.specs.Lists.{closed_blocks}
 use Rattle.constraint_lists.specs.Measuring.{closed_words, closed_more, CloseWordsAsks}

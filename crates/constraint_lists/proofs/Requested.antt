@@ -3,7 +3,6 @@
 use Prim.Native.Nat.{ℕ, zero, suc, ◌+◌, ◌*◌, ◌<◌, ◌≤◌}
 use mathlib.Core.Path.{◌≡◌, refl, sym, ◌∙◌, ap, subst}
 use mathlib.Core.Bool.{Bool, true, false}
-use mathlib.Core.Option.{Option, none, some}
 use mathlib.Core.List.{List, [], ◌∷◌}
 use mathlib.Core.Logic.{⊎_elim}
 use native.Mathlib.Omega.{arith}
@@ -12,38 +11,37 @@ use lib.ListN.{length, get_or, set, length-set}
 use lib.Seq.{get_or-set_same, get_or-set_other, ext_get_or}
 use lib.Dec.{eqb}
 use borrow.Author.Tests.{eqb-true, eqb-false}
-use Rattle.meaning.specs.Refusals.{Refusal, Answer, done, refused, ◌then◌}
+use Rattle.meaning.specs.Refusals.{Answer, done, ◌then◌}
 use Rattle.meaning.specs.Trees.{Forest, Acyclic, Each}
-use Rattle.meaning.specs.Order.{Marks, Job, Asked}
+use Rattle.meaning.specs.Order.{Asked}
 use Rattle.meaning.specs.Generation.{Request}
 use Rattle.meaning.specs.Demand3.{NoResult}
 use Rattle.meaning.specs.Asking.{ask_all}
 use Rattle.meaning.specs.Holding.{all-asks}
-use Rattle.meaning.proofs.Laws.Once.{Chain}
 use Rattle.meaning.proofs.Laws.Tests.{each_map}
 use Rattle.kinds.specs.Write.{write}
-use Rattle.frames.specs.Order.{expression_limit, request_limit}
-use Rattle.frames.specs.Tables.{request_in, request_word, first}
+use Rattle.frames.specs.Order.{request_limit}
+use Rattle.frames.specs.Tables.{request_in, request_word}
 use Rattle.frames.specs.Packing.{request_read, request_kept, first-length, first-at}
 use Rattle.pool.specs.Trees.{forest}
 use Rattle.starkinfo_codegen.specs.Emitting.{Rest, pool_of}
 use Rattle.starkinfo_codegen.specs.Ordering.{marks_of}
 use Rattle.starkinfo_codegen.specs.Requests.{start-state}
 use Rattle.requests.specs.Planning.{request_of, request_at, requests_in, Adds, Says, PlanAsks}
-use Rattle.requests.specs.Making.{JobThere, E}
+use Rattle.requests.specs.Making.{JobThere}
 use Rattle.requests.specs.Jobs.{jobs-ask, jobs-there, jobs-once}
 use Rattle.requests.specs.declared.plan.Plan.{Plan}
 use Rattle.requests.specs.declared.plan.Plan.TheVariants as plan
-use Rattle.context.specs.Context.{cells, blocks_in, steps_in, Mark, Good}
+use Rattle.context.specs.Context.{cells, blocks_in, steps_in, Good}
 use Rattle.context.specs.Tables.{marks_in, words_in}
-use Rattle.context.specs.Held.{word_cell, Word, Sound}
+use Rattle.context.specs.Held.{word_cell, Sound}
 use Rattle.context.specs.Stored as stored
 use Rattle.codegen.specs.Said.{Said, said, adding, sayings, sayings_lawful}
-use Rattle.codegen.specs.Committing.{no_words, CommitAsks, after_jobs}
+use Rattle.codegen.specs.Committing.{no_words, CommitAsks}
 use Rattle.codegen.specs.Loads as loads
 use Rattle.codegen.specs.Pigeons.{table-room}
 use Rattle.constraint_meaning.specs.Constraint.{plain_request, plain_requests}
-use Rattle.constraint_pieces.specs.Marks.{AllBelow, mark_one, mark_all, with_members, one_size, all-size, all-marks, below-tail}
+use Rattle.constraint_pieces.specs.Marks.{mark_one, mark_all, all-size, all-marks}
 use Rattle.constraint_pieces.specs.Marking.{marked_said}
 use Rattle.constraint_lists.specs.Lists.{closed_if, list_said}
 use Rattle.constraint_lists.specs.Planned.{plain_frame, FillAsks, FillGives, ListAsks, PlanSays}

@@ -1,52 +1,46 @@
 -- A list that was planned: its steps, whether there is room for them and for the three lists, and what stands when it is written. No word of the code.
 -- Assumes nothing.
-use Prim.Native.Nat.{ℕ, zero, suc, ◌+◌, ◌*◌, ◌-◌, ◌/◌, ◌<◌, ◌≤◌}
+use Prim.Native.Nat.{ℕ, suc, ◌+◌, ◌*◌, ◌-◌, ◌≤◌}
 use mathlib.Core.Path.{◌≡◌, refl, sym, ◌∙◌, ap, subst}
 use mathlib.Core.Bool.{Bool, true, false, ◌&&◌, cond}
 use mathlib.Core.Option.{none}
-use mathlib.Core.List.{List, [], ◌∷◌, ◌++◌}
+use mathlib.Core.List.{List, [], ◌++◌}
 use native.Mathlib.Omega.{arith}
-use lib.ListN.{length, get_or, drop, replicate, length-append, length-replicate, length-drop}
+use lib.ListN.{length, drop, replicate, length-append, length-replicate, length-drop}
 use lib.Seq.{ext_get_or, get_or-drop}
 use lib.Dec.{leb}
 use borrow.Author.Tests.{leb-true}
-use Rattle.meaning.specs.Refusals.{Refusal, Answer, done, refused}
-use Rattle.meaning.specs.Trees.{Forest, nth}
-use Rattle.meaning.specs.Order.{Marks, Job}
-use Rattle.meaning.specs.Building.{flagged}
+use Rattle.meaning.specs.Refusals.{Refusal, done, refused}
+use Rattle.meaning.specs.Order.{Job}
 use Rattle.meaning.proofs.Laws.Tests.{and_left, and_right}
 use Rattle.kinds.specs.Write.{write, write-length, write-after}
 use Rattle.kinds.specs.Steps.{step_size, steps_bytes, steps-length}
-use Rattle.kinds.specs.declared.step.Step.{Step}
 use Rattle.starkinfo_codegen.specs.Encoding.{encoded, encoded-length}
-use Rattle.starkinfo_codegen.specs.Emitting.{Rest, pool_of}
+use Rattle.starkinfo_codegen.specs.Emitting.{Rest}
 use Rattle.starkinfo_codegen.specs.Ordering.{marks_of}
-use Rattle.requests.specs.Making.{steps_from, SizeIs, Room}
-use Rattle.requests.specs.Placing.{block_words, PlaceAsks}
+use Rattle.requests.specs.Making.{steps_from, SizeIs}
 use Rattle.requests.specs.Jobs.{steps-count}
-use Rattle.builds.specs.Raw.{RawBlock, RawSegment, steps_in, start_of, raw_blocks, raw_segment, flagged_in, every}
-use Rattle.builds.specs.Numbered.{BlocksAsk}
+use Rattle.builds.specs.Raw.{RawBlock, RawSegment, start_of, raw_blocks, raw_segment, flagged_in, every}
 use Rattle.builds.specs.Starts.{start-next, start-le}
-use Rattle.builds.specs.Lists.{list_in, CopyAsks, every-is, list-few}
+use Rattle.builds.specs.Lists.{list_in, every-is, list-few}
 use Rattle.builds.specs.Flags.{flags_in, after-build}
 use Rattle.builds.specs.Marking.{release, release_length}
 use Rattle.builds.specs.declared.build.Which.{Which}
 use Rattle.builds.specs.declared.build.Which.TheVariants as which
-use Rattle.context.specs.Context.{cells, blocks_in, steps_in as count_in, temporaries_in}
-use Rattle.context.specs.Tables.{Read16}
+use Rattle.context.specs.Context.{cells}
 use Rattle.context.specs.Held.{stored_in}
-use Rattle.codegen.specs.Said.{Said, said, segment_said, after_said}
-use Rattle.codegen.specs.Written.{mark_bytes, step_count, context_with, ListWith, fits, stored-with, steps-with}
-use Rattle.codegen.specs.Committing.{step_bound, CommitAsks, StoreAsked, after_jobs}
-use Rattle.codegen.specs.Building.{Lists, lists, fits_all, Sizes, sizes, lists_with}
+use Rattle.codegen.specs.Said.{Said, segment_said, after_said}
+use Rattle.codegen.specs.Written.{mark_bytes, step_count, ListWith, fits, steps-with}
+use Rattle.codegen.specs.Committing.{CommitAsks, StoreAsked}
+use Rattle.codegen.specs.Building.{Lists, lists, fits_all, sizes, lists_with}
 use Rattle.codegen.proofs.Commits.{G, B, at, T, t', after, full', added, longer-steps, some-step, sound, counter-after}
 use Rattle.codegen.proofs.Ends.{Fitting, fits_all_lem, start-after}
-use Rattle.constraint_lists.specs.Lists.{closed_blocks, closed_if, room_for, Written}
-use Rattle.constraint_lists.specs.Measuring.{closed_words, closed_more, CloseWordsAsks, final_words, final_said, measured_says, RoomsAsk, segment_in, RoomsGiven, MeasureAsks, WordsAre, Measures}
-use Rattle.constraint_lists.specs.Writing.{closed_bytes, CloseListAsks, CopiesAsk, WriteAsks}
+use Rattle.constraint_lists.specs.Lists.{closed_blocks, room_for, Written}
+use Rattle.constraint_lists.specs.Measuring.{closed_words, closed_more, CloseWordsAsks, final_said, measured_says, RoomsAsk, segment_in, RoomsGiven, MeasureAsks, WordsAre, Measures}
+use Rattle.constraint_lists.specs.Writing.{closed_bytes, CloseListAsks, CopiesAsk}
 use Rattle.constraint_lists.specs.declared.measure.Measured.{Measured}
 use Rattle.constraint_lists.specs.declared.measure.Measured.TheVariants as measured
-use Rattle.constraint_lists.proofs.Finals.{words_size, more-few, bytes-size, bytes_past, Stepped, final-start, final-count, final-blocks, final-put}
+use Rattle.constraint_lists.proofs.Finals.{words_size, bytes-size, bytes_past, Stepped, final-start, final-count, final-blocks, final-put}
 
 -- ── the three lists ──────────────────────────────────────────────────────────
 fits_by :

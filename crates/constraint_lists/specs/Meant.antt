@@ -2,7 +2,7 @@
 -- and of `step42ns`.
 -- Assumes nothing.
 use Rattle.std.specs.Prelude.{ℕ, ◌≡◌, refl, Bool, true, false, ◌||◌, List, [], ◌∷◌}
-use Rattle.std.proofs.Common.{sym, ◌∙◌, ap}
+use Rattle.std.proofs.Common.{◌∙◌, ap}
 use Rattle.std.proofs.Math.Path.{fun_ext}
 use Rattle.meaning.specs.Refusals.{Answer, done, refused, ◌then◌}
 use Rattle.meaning.specs.Trees.{Forest}

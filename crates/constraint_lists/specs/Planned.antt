@@ -2,7 +2,7 @@
 -- Assumes nothing: these are definitions.
 use Rattle.std.specs.Prelude.{ℕ, ◌≤◌, ◌<◌, ◌≡◌, Bool, List, length, get_or}
 use Rattle.std.proofs.Math.Option.{none, some}
-use Rattle.meaning.specs.Refusals.{Refusal, Answer, done, refused}
+use Rattle.meaning.specs.Refusals.{Refusal, done, refused}
 use Rattle.meaning.specs.Trees.{Acyclic}
 use Rattle.meaning.specs.Order.{Job}
 use Rattle.frames.specs.Order.{expression_limit, request_limit}
