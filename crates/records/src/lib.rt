@@ -1,5 +1,7 @@
 // `map_section` over polynomial records that are lent as a list of structs: their columns are copied out, mapped as plain numbers, and the positions
 // written back. What is refused is decided by functions on numbers, before anything is written.
+#![tactic(auto)]
+
 ghost use Rattle.std.specs.Prelude.{◌≡◌};
 ghost use Rattle.sections.specs.Answer.{mapped_no};
 ghost use Rattle.records.specs.Columns.{bad_after, refusal_no, accepted_count, ColumnsMapped};
@@ -10,7 +12,7 @@ use sections::map_section::{Mapped, RECORD_LIMIT, WIDTHS, map_section, read_coun
 use sections::section::Section;
 
 #[repr(C)]
-#[derive(Drop)]
+#[derive(Clone, Copy)]
 pub struct PolType {
     pub section: u16,
     pub dim: u16,
