@@ -18,7 +18,7 @@ use pool::admit::{Verdict, admit};
 use starkinfo_codegen::order::JOB_LIMIT;
 
 // How many steps each list has, or the refusal.
-#[derive(Drop)]
+#[derive(Clone, Copy)]
 pub enum Built {
     Malformed(Blame),
     Limit(Blame),

@@ -5,7 +5,7 @@ ghost use Rattle.constraint_build.specs.Committing.{joined, is_done};
 use constraint_lists::measure::Measured;
 
 // How many steps each list has.
-#[derive(Drop)]
+#[derive(Clone, Copy)]
 pub struct Sizes {
     pub first: usize,
     pub i: usize,

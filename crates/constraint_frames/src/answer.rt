@@ -7,7 +7,7 @@ use constraint_pool::judge::Columns;
 use frames::count::Blame;
 
 // The constraint's number among the expressions, the columns with it, and how many bytes the frames have.
-#[derive(Drop)]
+#[derive(Clone, Copy)]
 pub struct Numbers {
     pub expression: usize,
     pub n_cm3: usize,
@@ -18,7 +18,7 @@ pub struct Numbers {
 }
 
 // The numbers, or the refusal with the node to blame; a root or an identity that is not there has none.
-#[derive(Drop)]
+#[derive(Clone, Copy)]
 pub enum Constrained {
     Malformed(Blame),
     Limit(Blame),

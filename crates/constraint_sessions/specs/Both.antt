@@ -1,8 +1,8 @@
 -- BOTH LISTS ARE THE DEFINITION'S: where two contexts' bytes hold contexts of `meaning`, the first refusal of the two lists is that of the definition's `lists_with`, and
 -- what was written of both is what it makes.
 -- Assumes nothing.
-use Rattle.std.specs.Prelude.{ℕ, ◌+◌, ◌-◌, ◌≤◌, ◌≡◌, refl, List, length}
-use Rattle.std.proofs.Common.{sym, ◌∙◌, ap}
+use Rattle.std.specs.Prelude.{ℕ, ◌+◌, ◌-◌, ◌≤◌, ◌≡◌, List, length}
+use Rattle.std.proofs.Common.{◌∙◌, ap}
 use Rattle.std.proofs.Math.Option.{Option}
 use Rattle.meaning.specs.Refusals.{Refusal, Answer, done, refused, ◌then◌}
 use Rattle.meaning.specs.Trees.{Forest}
@@ -14,7 +14,7 @@ use Rattle.codegen.specs.Said.{Said, said}
 use Rattle.codegen.specs.Building.{Lists}
 use Rattle.codegen.specs.Sessions.{Holds}
 use Rattle.constraint_meaning.specs.Tree.{Numbered, Intermediate, extended}
-use Rattle.constraint_meaning.specs.Constraint.{Built, Asked, Made, up_from, step3, step42ns, lists_with}
+use Rattle.constraint_meaning.specs.Constraint.{Built, Asked, Made, up_from, step42ns, lists_with}
 use Rattle.constraint_pieces.specs.Marks.{AllBelow}
 use Rattle.constraint_lists.specs.Lists.{step3_said, step42ns_said, Written}
 use Rattle.constraint_sessions.specs.Stood.{Stood, step3-refused, step3-done, step3_stood, step42ns_stood, step42ns-refused}

@@ -3,10 +3,10 @@
 use Rattle.std.specs.Prelude.{ℕ, ◌<◌, ◌≤◌, ◌≡◌, refl, Bool, true, false, ◌&&◌, ◌||◌, List, [], ◌∷◌, length, eqb, ltb}
 use Rattle.std.proofs.Common.{sym, ◌∙◌, ap, subst, arith, eqb-true, ltb-true}
 use Rattle.std.proofs.Math.Option.{Option, none, some}
-use Rattle.meaning.specs.Refusals.{done, ◌then◌}
+use Rattle.meaning.specs.Refusals.{done}
 use Rattle.meaning.specs.Trees.{Expression, Forest, nth, Each}
 use Rattle.meaning.specs.Order.{Marks, marking, Job}
-use Rattle.meaning.specs.Generation.{State, Request, adding, serve_all}
+use Rattle.meaning.specs.Generation.{State, adding, serve_all}
 use Rattle.meaning.specs.Building.{released, after_build}
 use Rattle.meaning.specs.Demand3.{NoResult}
 use Rattle.meaning.specs.Asking.{ask_all}

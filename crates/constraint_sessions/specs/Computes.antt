@@ -1,7 +1,7 @@
 -- STEP42NS, OF BYTES, COMPUTES THE CONSTRAINT: the first list that was written is steps that, after any list that leaves what the second context marks, the members'
 -- values among others, run and leave in the constraint's cell the constraint's value; and then q = that cell · Zi.
 -- Assumes nothing.
-use Rattle.std.specs.Prelude.{ℕ, ◌<◌, ◌≡◌, refl, length}
+use Rattle.std.specs.Prelude.{ℕ, ◌<◌, ◌≡◌, length}
 use Rattle.std.proofs.Common.{sym, ◌∙◌}
 use Rattle.std.proofs.Math.Path.{ap}
 use mathlib.Core.List.{List, [], ◌∷◌, ◌++◌}
@@ -15,7 +15,7 @@ use Rattle.meaning.specs.Demand3.{Throughout, Fed}
 use Rattle.meaning.proofs.Laws.Blocks.{Inv}
 use Rattle.kinds.specs.Write.{write}
 use Rattle.frames.specs.Order.{expression_limit}
-use Rattle.starkinfo_codegen.specs.Encoding.{records, encoded}
+use Rattle.starkinfo_codegen.specs.Encoding.{encoded}
 use Rattle.context.specs.Context.{Good}
 use Rattle.codegen.specs.Said.{Said, said}
 use Rattle.codegen.specs.Building.{Lists}

@@ -1,6 +1,6 @@
 -- A context that is good for a pool is good for a pool with more expressions: that with the constraint.
 -- Assumes nothing.
-use Rattle.std.specs.Prelude.{ℕ, ◌*◌, ◌≤◌, List}
+use Rattle.std.specs.Prelude.{ℕ, ◌≤◌, List}
 use Rattle.std.proofs.Common.{arith}
 use Rattle.context.specs.Context.{Good}
 

@@ -1,20 +1,20 @@
 -- THE LAST STEP OF STEP42NS, of bytes: in a context that is good for the pool without the constraint nothing beyond that pool is marked, so the list that was written
 -- ends with q = the constraint's cell · Zi.
 -- Assumes nothing.
-use Rattle.std.specs.Prelude.{ℕ, ◌+◌, ◌*◌, ◌<◌, ◌≤◌, ◌≡◌, refl, Bool, false, ◌&&◌, List, [], length, get_or, drop, ltb}
-use Rattle.std.proofs.Common.{sym, ◌∙◌, ap, subst, arith, get_or-take, get_or-drop, le-ltb}
+use Rattle.std.specs.Prelude.{ℕ, ◌<◌, ◌≤◌, ◌≡◌, false, List, length, get_or, drop}
+use Rattle.std.proofs.Common.{sym, ◌∙◌, ap, arith, get_or-take, get_or-drop}
 use Rattle.meaning.specs.Refusals.{done}
 use Rattle.meaning.specs.Trees.{Expr, Forest, Each}
 use Rattle.meaning.specs.Generation.{State}
 use Rattle.frames.specs.Order.{expression_limit}
 use Rattle.starkinfo_codegen.specs.Ordering.{cell_of, marks_of}
-use Rattle.context.specs.Context.{marks_at, cells, context_size, mark_in, Good}
+use Rattle.context.specs.Context.{marks_at, cells, Good}
 use Rattle.context.specs.Tables.{marks_in}
 use Rattle.codegen.specs.Said.{Said, said}
 use Rattle.codegen.specs.Building.{Lists}
 use Rattle.codegen.specs.Sessions.{Holds}
 use Rattle.constraint_meaning.specs.Tree.{extended}
-use Rattle.constraint_meaning.specs.Constraint.{Built, step42ns}
+use Rattle.constraint_meaning.specs.Constraint.{Built}
 use Rattle.constraint_meaning.specs.Ranks.{length-extended}
 use Rattle.constraint_meaning.specs.Closing.{Closes, closing-product}
 use Rattle.constraint_pieces.specs.Marks.{AllBelow}

@@ -1,7 +1,7 @@
 -- THE LISTS IN PIECES: a call that serves the members and a build give `step3`; marking the members, a call that serves the constraint, the closing product and a build
 -- give `step42ns`, of what the contexts hold.
 -- Assumes nothing.
-use Rattle.std.specs.Prelude.{ℕ, suc, ◌<◌, ◌≤◌, ◌≡◌, refl, Bool, true, false, cond, List, [], ◌∷◌, length, get_or, leb}
+use Rattle.std.specs.Prelude.{ℕ, suc, ◌<◌, ◌≤◌, ◌≡◌, refl, Bool, true, false, cond, List, [], ◌∷◌, length, leb}
 use Rattle.std.proofs.Common.{sym, ◌∙◌, ap, subst, arith, leb-true}
 use Rattle.std.proofs.Math.Option.{none}
 use Rattle.meaning.specs.Refusals.{Refusal, Answer, done, refused, ◌then◌}

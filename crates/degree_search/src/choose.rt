@@ -11,7 +11,7 @@ use frames::tables::NODE_WORDS;
 use sets::SET_WORDS;
 
 // The quotient's degree and the visits, or the refusal with the node to blame; a root or an identity that is not there has none.
-#[derive(Drop)]
+#[derive(Clone, Copy)]
 pub enum Searched {
     ChildCount(usize),
     NotThere(usize),

@@ -10,7 +10,7 @@ use pool::admit::{Verdict, admit};
 use sets::SET_WORDS;
 
 // A refusal while reading, or what comes of what was read.
-#[derive(Drop)]
+#[derive(Clone, Copy)]
 pub enum Outcome {
     Malformed(Blame),
     Limit(Blame),

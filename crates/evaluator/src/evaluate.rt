@@ -11,7 +11,7 @@ use frames::tables::NODE_WORDS;
 use pool::admit::{Verdict, admit};
 
 // How many cells are written, or the refusal.
-#[derive(Drop)]
+#[derive(Clone, Copy)]
 pub enum Evaluation {
     Malformed(Blame),
     Limit(Blame),

@@ -12,7 +12,7 @@ use plans::layout::cm_count;
 use sections::map_section::RECORD_LIMIT;
 
 // How many bytes the answer has; or why there is no plan; or 9, where there is no room for all of them.
-#[derive(Drop)]
+#[derive(Clone, Copy)]
 pub enum Mapping {
     Unplanned(Unplanned),
     Full,

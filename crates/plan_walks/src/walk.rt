@@ -13,7 +13,7 @@ pub const DOMAIN_N: u8 = 0;
 pub const DOMAIN_2NS: u8 = 1;
 
 // The counter after it, 0 where a walk has none; or why there is no plan; or the refusal that the walk meets: 1, 3, 10, 12 or 9.
-#[derive(Drop)]
+#[derive(Clone, Copy)]
 pub enum Walk {
     Unplanned(Unplanned),
     Malformed,

@@ -2,7 +2,7 @@
 use frames::count::Blame;
 
 // Why there is no plan. What is ill-formed is the plan's record or another argument.
-#[derive(Drop)]
+#[derive(Clone, Copy)]
 pub enum Unplanned {
     Malformed(Blame),
     Limit(Blame),

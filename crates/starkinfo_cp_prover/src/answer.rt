@@ -8,7 +8,7 @@ use frames::count::Blame;
 use sets::SET_WORDS;
 
 // The quotient's degree, the visits, the sizes of the lists and of the frames; or the refusal with the node to blame.
-#[derive(Drop)]
+#[derive(Clone, Copy)]
 pub enum Generated {
     Malformed(Blame),
     Limit(Blame),
