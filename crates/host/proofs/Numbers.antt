@@ -2,17 +2,14 @@
 -- Assumes nothing.
 use Prim.Native.Nat.{ℕ}
 use mathlib.Core.Path.{◌≡◌, refl, sym, ◌∙◌, ap, subst}
-use mathlib.Core.Bool.{Bool, true, false, cond}
+use mathlib.Core.Bool.{Bool, cond}
 use mathlib.Core.List.{List}
 use lib.ListN.{length, get_or}
-use lib.Dec.{eqb}
 use Rattle.meaning.specs.Refusals.{Refusal, Answer, done, refused, answer_no, number, ◌then◌}
-use Rattle.context.specs.Context.{context_size}
 use Rattle.context.specs.Tables.{Freshened}
-use Rattle.codegen.specs.Said.{Said}
 use Rattle.codegen.specs.Committing.{served_says, outcome}
 use Rattle.codegen.specs.Serving.{ServeGiven}
-use Rattle.codegen.specs.Building.{Lists, Sizes, sizes, built_says, BuildGiven}
+use Rattle.codegen.specs.Building.{Lists, sizes, built_says, BuildGiven}
 use Rattle.codegen.specs.declared.asked.Wanted.{Wanted}
 use Rattle.codegen.specs.declared.commit.Served.{Served}
 use Rattle.codegen.specs.declared.build.Built.{Built}

@@ -1,14 +1,13 @@
 -- THE EXPORTED SEARCH: the answer is the one that `degree_search` defines, told as its number, with the set, q and the visits.
 -- Assumes nothing: these are definitions.
 use Rattle.std.specs.Prelude.{ℕ, ◌≡◌, List, [], set}
-use Rattle.meaning.specs.Refusals.{Refusal, number, Answer, done, refused, answer_no}
+use Rattle.meaning.specs.Refusals.{Answer, done, refused, answer_no}
 use Rattle.frames.specs.Reading.{reading}
 use Rattle.search_meaning.specs.Search.{Choice}
 use Rattle.degree_search.specs.Choosing.{searched_says, SetAfter}
 use Rattle.degree_search.specs.Searching.{asking, Runs, outcome_says}
 use Rattle.degree_search.specs.declared.choose.Searched.{Searched}
 use Rattle.degree_search.specs.declared.search.Outcome.{Outcome}
-use Rattle.degree_search.specs.declared.search.Outcome.TheVariants as outcome
 use Rattle.sets.specs.Members.{members}
 
 -- THE NUMBER OF Searched AND OF Outcome, which no set changes

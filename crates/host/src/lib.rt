@@ -1,5 +1,7 @@
 // Generation and the evaluator for a program in another language: each function takes numbers and lent bytes, asks nothing of them, and answers with a number: 0 where it
 // was done, else the refusal's, and then nothing lent has changed.
+#![tactic(auto)]
+
 pub mod map;
 pub mod plan;
 pub mod run;
@@ -130,13 +132,7 @@ pub fn enonkasse_fresh(context: &mut [u8]) -> u8
 }
 
 // Serves the requests among the frames; the last of them asks for a result of this kind and id, or, where both are 0, for none.
-pub fn enonkasse_serve(
-    frames: &[u8],
-    kind: u8,
-    id: u16,
-    context: &mut [u8],
-    list: &mut [u8],
-) -> u8
+pub fn enonkasse_serve(frames: &[u8], kind: u8, id: u16, context: &mut [u8], list: &mut [u8]) -> u8
     ensures { ServeNumbered frames.now (wanted kind id) context.old context.new list.old list.new result }
 {
     let r = serve(frames, Wanted { kind, id }, context, list);
