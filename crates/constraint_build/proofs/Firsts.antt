@@ -1,15 +1,15 @@
 -- Both lists by the first, which is planned and measured, and the second, which is made: the whole answer. Over plain variables.
 -- Assumes nothing.
-use Prim.Native.Nat.{ℕ, ◌-◌, ◌≤◌}
-use mathlib.Core.Path.{◌≡◌, refl, sym, ◌∙◌, ap, subst}
+use Prim.Native.Nat.{ℕ, ◌-◌}
+use mathlib.Core.Path.{◌≡◌, refl, sym, ◌∙◌, ap}
 use mathlib.Core.Bool.{Bool, true, false, ◌&&◌, cond}
-use mathlib.Core.Option.{Option, none, some}
+use mathlib.Core.Option.{Option, none}
 use mathlib.Core.List.{List, []}
 use native.Mathlib.Omega.{arith}
 use lib.ListN.{length}
 use lib.Dec.{leb}
 use Rattle.meaning.specs.Refusals.{Refusal, Answer, done, refused, ◌then◌}
-use Rattle.meaning.proofs.Laws.Tests.{and_left, done-not-refused}
+use Rattle.meaning.proofs.Laws.Tests.{done-not-refused}
 use Rattle.pool.specs.Pool.{Pool}
 use Rattle.pool.specs.Trees.{forest}
 use Rattle.starkinfo_codegen.specs.Emitting.{Rest, pool_of}
@@ -20,10 +20,10 @@ use Rattle.codegen.specs.Building as building
 use Rattle.constraint_frames.specs.Extension.{bytes_of}
 use Rattle.constraint_lists.specs.Lists.{step3_said, step42ns_said, room_for, Written}
 use Rattle.constraint_lists.specs.Planned.{ListAsks}
-use Rattle.constraint_lists.specs.Measuring.{final_said, measured_says}
+use Rattle.constraint_lists.specs.Measuring.{final_said}
 use Rattle.constraint_lists.specs.Writing.{WriteAsks, WriteAsked, WriteGiven}
 use Rattle.constraint_lists.specs.declared.measure.Measured.{Measured}
-use Rattle.constraint_build.specs.Both.{Lent, Both, Totals, fitting, listing, made_says, Tells}
+use Rattle.constraint_build.specs.Both.{Lent, Both, Totals, fitting, made_says, Tells}
 use Rattle.constraint_build.specs.Committing.{rest_of, FitAsked, Fitted, SecondAsks, SecondGiven, fitting_second, TellsSecond, is_done}
 use Rattle.constraint_build.specs.Making.{MakeAsks}
 use Rattle.constraint_build.specs.declared.answer.Made.{Made}

@@ -7,10 +7,9 @@ use mathlib.Core.Option.{none, some}
 use mathlib.Core.List.{List}
 use native.Mathlib.Omega.{arith}
 use lib.ListN.{length}
-use Rattle.meaning.specs.Refusals.{Refusal, Answer, done, refused}
+use Rattle.meaning.specs.Refusals.{Refusal, done, refused}
 use Rattle.meaning.proofs.Laws.Tests.{done-same, done-not-refused}
-use Rattle.meaning.specs.Trees.{Forest, Acyclic}
-use Rattle.meaning.specs.Order.{Job}
+use Rattle.meaning.specs.Trees.{Acyclic}
 use Rattle.pool.specs.Trees.{forest}
 use Rattle.starkinfo_codegen.specs.Emitting.{Rest, pool_of}
 use Rattle.requests.specs.Making.{E}

@@ -1,9 +1,9 @@
 -- What planning and measuring one list, and making the second with the frames, ask and give, over tables.
 -- Assumes nothing: these are definitions.
-use Rattle.std.specs.Prelude.{ℕ, ◌-◌, ◌≤◌, ◌<◌, ◌≡◌, Bool, true, false, ◌&&◌, cond, List, [], ◌∷◌, length, leb}
+use Rattle.std.specs.Prelude.{ℕ, ◌-◌, ◌≤◌, ◌<◌, ◌≡◌, Bool, true, false, ◌&&◌, cond, List, length, leb}
 use Rattle.std.proofs.Math.Option.{none, some}
 use Rattle.meaning.specs.Refusals.{Refusal, Answer, done, refused, ◌then◌}
-use Rattle.meaning.specs.Trees.{Forest, Acyclic}
+use Rattle.meaning.specs.Trees.{Acyclic}
 use Rattle.meaning.specs.Order.{Job}
 use Rattle.kinds.specs.Write.{write}
 use Rattle.frames.specs.Order.{node_limit, expression_limit}
@@ -11,7 +11,6 @@ use Rattle.pool.specs.Pool.{Pool}
 use Rattle.pool.specs.Trees.{forest}
 use Rattle.pool.specs.Shaped.{Shaped}
 use Rattle.starkinfo_codegen.specs.Emitting.{Rest, pool_of, RowFits}
-use Rattle.builds.specs.Raw.{RawSegment}
 use Rattle.requests.specs.Making.{E}
 use Rattle.context.specs.Context.{Good}
 use Rattle.codegen.specs.Said.{Said, said, segment_said}

@@ -31,7 +31,7 @@ pub enum Fit {
 }
 
 // Those and how many bytes the frames have, or the refusal with the node to blame.
-#[derive(Drop)]
+#[derive(Clone, Copy)]
 pub enum Made {
     Lost,
     DoublePrime(usize),
