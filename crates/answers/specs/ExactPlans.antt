@@ -37,7 +37,7 @@ use Rattle.plan_map.specs.Exactly.{by-no-room, by_room}
 use Rattle.plan_tables.specs.Tables.{trees}
 use Rattle.plan_exactly.specs.Numbers.{verdict-number}
 use Rattle.plan_exactly.specs.Fixing as by-fixing
-use Rattle.plan_exactly.specs.Query as by-query
+use Rattle.plan_exactly.proofs.Query as by-query
 use Rattle.plan_exactly.specs.Query.{NoCm}
 use Rattle.plan_walks.specs.Walks as walks
 use Rattle.plan_walks.specs.Walks.{Walked, good_segment, last_domain}

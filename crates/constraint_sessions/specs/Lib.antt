@@ -2,7 +2,6 @@
 pub mod Bounds
 pub mod Larger
 pub mod Stood
-pub mod Both
 pub mod Pieces
 pub mod LastStep
 pub mod Computes

@@ -17,7 +17,7 @@ use Rattle.context.specs.Context.{context_size}
 use Rattle.codegen.specs.Said.{Said, said, said_of, segment-said}
 use Rattle.codegen.specs.Building.{Lists, lists_with}
 use Rattle.codegen.specs.Sessions.{Bounded, Holds, said-again}
-use Rattle.constraint_meaning.specs.Constraint.{Built, built_from, plain_request, plain_requests, step3, marked, closing, step42ns}
+use Rattle.constraint_meaning.specs.Constraint.{Built, built_from, plain_request, plain_requests, marked, closing, step42ns}
 use Rattle.constraint_pieces.specs.Marks.{AllBelow}
 use Rattle.constraint_pieces.specs.Marking.{marked-bounded}
 use Rattle.constraint_lists.specs.Lists.{step3_said, step42ns_said, Written}
@@ -30,11 +30,11 @@ pub record Stood (o : Lists) (b : Built) (x' l' : List ℕ) (o' : Lists) : Type 
   pub holds : Holds x' l' b.context
 
 -- an answer over states, seen in what is said: it was done, or refused alike
-of-done : (f : State → Said) (z : Answer State) (s : Said) → mapped f z ≡ done s → (u : State) × (z ≡ done u) × (f u ≡ s)
+pub of-done : (f : State → Said) (z : Answer State) (s : Said) → mapped f z ≡ done s → (u : State) × (z ≡ done u) × (f u ≡ s)
 of-done f (done u) s h = (u, refl, done-same (f u) s h)
 of-done f (refused k o) s h = absurd (done-not-refused (sym h))
 
-of-refused : (f : State → Said) (z : Answer State) (k : Refusal) (o : Option ℕ) → mapped f z ≡ refused k o → z ≡ refused k o
+pub of-refused : (f : State → Said) (z : Answer State) (k : Refusal) (o : Option ℕ) → mapped f z ≡ refused k o → z ≡ refused k o
 of-refused f (done u) k o h = absurd (done-not-refused h)
 of-refused f (refused k' o') k o h =
     let p : k' ≡ k = cc in
@@ -43,7 +43,7 @@ of-refused f (refused k' o') k o h =
 
 module _ (E : Forest) (small : length E ≤ expression_limit) (x l : List ℕ) (size : length x ≡ context_size) where
   -- what was written of a context of `meaning`
-  written_stood : (st : State) (o : Lists) (x' l' : List ℕ) (o' : Lists) → Bounded st.marks → Written E x l o (said_of st) x' l' o' → Stood o (built_from 2 E st) x' l' o'
+  pub written_stood : (st : State) (o : Lists) (x' l' : List ℕ) (o' : Lists) → Bounded st.marks → Written E x l o (said_of st) x' l' o' → Stood o (built_from 2 E st) x' l' o'
   written_stood st o x' l' o' bounded w =
       let b : Bounded (after_build 2 E st).marks = built-bounded E small st bounded in
       record {
@@ -57,28 +57,9 @@ module _ (E : Forest) (small : length E ≤ expression_limit) (x l : List ℕ) (
 
   module _ (st : State) (holds : Holds x l st) (members : List ℕ) where
     -- ── step3 ──────────────────────────────────────────────────────────────────
-    said3 : step3_said E members (said x l) ≡ mapped said_of (serve_all 2 E (plain_requests members) st)
+    -- the theorems on step3 that stand on it are those of proofs/Step3.antt
+    pub said3 : step3_said E members (said x l) ≡ mapped said_of (serve_all 2 E (plain_requests members) st)
     said3 = ap (step3_said E members) holds.says ∙ step3-is E members st
-
-    pub step3-refused : (k : Refusal) (i : Option ℕ) → step3_said E members (said x l) ≡ refused k i → step3 2 E members st ≡ refused k i
-    step3-refused k i h =
-        ap (λ (z : Answer State). z then λ u. done (built_from 2 E u)) (of-refused said_of (serve_all 2 E (plain_requests members) st) k i (sym said3 ∙ h))
-
-    -- before anything is written
-    pub step3-done : (s : Said) → step3_said E members (said x l) ≡ done s → (b : Built) × (step3 2 E members st ≡ done b)
-    step3-done s h =
-        let z = of-done said_of (serve_all 2 E (plain_requests members) st) s (sym said3 ∙ h) in
-        (built_from 2 E z.0, ap (λ (y : Answer State). y then λ u. done (built_from 2 E u)) z.1)
-
-    pub step3_stood :
-        (s : Said) → step3_said E members (said x l) ≡ done s → (o : Lists) (x' l' : List ℕ) (o' : Lists) → Written E x l o s x' l' o' →
-        (b : Built) × (step3 2 E members st ≡ done b) × Stood o b x' l' o'
-    step3_stood s h o x' l' o' w =
-        let z = of-done said_of (serve_all 2 E (plain_requests members) st) s (sym said3 ∙ h) in (
-          built_from 2 E z.0,
-          ap (λ (y : Answer State). y then λ u. done (built_from 2 E u)) z.1,
-          written_stood z.0 o x' l' o' (served-bounded E small members st z.0 holds.bounded z.1) (subst (λ (u : Said). Written E x l o u x' l' o') (sym z.2) w),
-        )
 
     -- ── step42ns ───────────────────────────────────────────────────────────────
     module _ (c : ℕ) where

@@ -39,7 +39,8 @@ use Rattle.plan_walks.specs.Walks.{Walked}
 use Rattle.plan_walks.specs.Fix.{is_n, FixIs}
 use Rattle.plan_walks.specs.declared.walk.Walk.TheVariants as walk
 use Rattle.plan_demand3.specs.Conditions.{IntermediatesDiffer, NoLeafReadsIntermediate, plan_for}
-use Rattle.plan_demand3.specs.Demand3Plan.{PlanComputes, demand3-plan}
+use Rattle.plan_demand3.specs.Demand3Plan.{PlanComputes}
+use Rattle.plan_demand3.proofs.Demand3Plan.{demand3-plan}
 use Rattle.host.specs.Numbered.{FreshNumbered, ServeNumbered, BuildNumbered, wanted, sizes_told, cells_told}
 use Rattle.host.specs.Runs.{RunNumbered}
 use Rattle.host.specs.Plans.{WalkCounted}

@@ -33,7 +33,7 @@ use Rattle.constraint_lists.specs.Lists.{step3_said, step42ns_said, Written}
 use Rattle.constraint_choice.specs.Below.{each_at}
 use Rattle.constraint_build.specs.Both.{Lent, Both, room_both, fitting, listing, After}
 use Rattle.constraint_sessions.specs.Stood.{Stood}
-use Rattle.constraint_sessions.specs.Both.{Held, made_of, first_refused, second_refused, both_stood}
+use Rattle.constraint_sessions.proofs.Both.{Held, made_of, first_refused, second_refused, both_stood}
 use Rattle.starkinfo_cp_prover.specs.Polynomial.{Polynomial, question_of, constrained, chosen_by, generating, Accepts, Answers, Stands, GeneratedIs}
 use Rattle.starkinfo_cp_prover.specs.Unique.{one-answers}
 use Rattle.starkinfo_cp_prover.specs.declared.answer.Generated.{Generated}

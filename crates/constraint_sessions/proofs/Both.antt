@@ -17,7 +17,8 @@ use Rattle.constraint_meaning.specs.Tree.{Numbered, Intermediate, extended}
 use Rattle.constraint_meaning.specs.Constraint.{Built, Asked, Made, up_from, step42ns, lists_with}
 use Rattle.constraint_pieces.specs.Marks.{AllBelow}
 use Rattle.constraint_lists.specs.Lists.{step3_said, step42ns_said, Written}
-use Rattle.constraint_sessions.specs.Stood.{Stood, step3-refused, step3-done, step3_stood, step42ns_stood, step42ns-refused}
+use Rattle.constraint_sessions.specs.Stood.{Stood, step42ns_stood, step42ns-refused}
+use Rattle.constraint_sessions.proofs.Step3.{step3-refused, step3-done, step3_stood}
 
 -- two contexts and their lists hold contexts of `meaning`
 pub record Held (x l y r : List ℕ) (first second : State) : Type 0 where
