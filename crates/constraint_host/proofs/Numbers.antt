@@ -5,17 +5,16 @@ use mathlib.Core.Path.{◌≡◌, refl, ◌∙◌, ap}
 use mathlib.Core.List.{List}
 use Rattle.meaning.specs.Refusals.{Answer, done, refused, answer_no, ◌then◌}
 use Rattle.codegen.specs.Committing.{outcome}
-use Rattle.sets.specs.Members.{members}
 use Rattle.constraint_pool.specs.declared.judge.Columns.{Columns}
 use Rattle.constraint_pieces.specs.Marking.{marking_says, MarkGiven}
 use Rattle.constraint_pieces.specs.Closing.{closing_says, CloseGiven}
 use Rattle.constraint_pieces.specs.declared.mark.Marking.{Marking}
 use Rattle.constraint_pieces.specs.declared.close.Closing.{Closing}
-use Rattle.constraint_frames.specs.Extension.{Extension, constrained_says, ConstrainGiven}
+use Rattle.constraint_frames.specs.Extension.{constrained_says, ConstrainGiven}
 use Rattle.constraint_frames.specs.declared.answer.Constrained.{Constrained}
 use Rattle.constraint_meaning.specs.Constraint.{Asked}
 use Rattle.constraint_build.specs.Both.{Lent}
-use Rattle.starkinfo_cp_prover.specs.Polynomial.{Polynomial, told_of, generated_says, GeneratedIs}
+use Rattle.starkinfo_cp_prover.specs.Polynomial.{told_of, generated_says, GeneratedIs}
 use Rattle.starkinfo_cp_prover.specs.declared.answer.Generated.{Generated}
 use Rattle.constraint_host.specs.Whole.{found_told, totals_told, ConstraintNumbered}
 use Rattle.constraint_host.specs.Numbered.{MarkNumbered, CloseNumbered, numbers_told, PoolNumbered}

@@ -33,12 +33,7 @@ fn closing_number(r: Closing) -> u8
 }
 
 // Marks these expressions of a pool that has so many at both rows: they stand in columns, and no list makes them any more.
-pub fn enonkasse_mark(
-    members: &[u64],
-    expressions: usize,
-    context: &mut [u8],
-    list: &[u8],
-) -> u8
+pub fn enonkasse_mark(members: &[u64], expressions: usize, context: &mut [u8], list: &[u8]) -> u8
     ensures { MarkNumbered members.now expressions context.old context.new list.now result }
 {
     marking_number(mark(members, expressions, context, list))

@@ -2,7 +2,7 @@
 -- `meaning`, it is refused where the definition refuses, with its number, or where there is no room (9); else the definition makes it, and what stands in the lists and in
 -- the contexts after it is what it makes.
 -- Assumes nothing.
-use Rattle.std.specs.Prelude.{ℕ, ◌+◌, ◌≤◌, ◌≡◌, refl, Bool, true, false, cond, ◌⊎◌, List, [], ◌∷◌, length}
+use Rattle.std.specs.Prelude.{ℕ, ◌+◌, ◌≤◌, ◌≡◌, refl, Bool, true, false, cond, ◌⊎◌, List, [], length}
 use Rattle.std.proofs.Common.{sym, ◌∙◌, ap, subst, inl, inr, arith}
 use Rattle.std.proofs.Math.Option.{Option, none}
 use Rattle.meaning.specs.Refusals.{Refusal, Answer, done, refused, ◌then◌}
@@ -26,7 +26,7 @@ use Rattle.constraint_meaning.specs.Members.{members-there}
 use Rattle.constraint_meaning.specs.Constraint.{Asked, Made, Built, tree_for, lists_with, made_with, constrain}
 use Rattle.constraint_pool.specs.Judging.{judged}
 use Rattle.constraint_pool.specs.Whole.{AllBelow}
-use Rattle.constraint_frames.specs.Extension.{pool_with, Back}
+use Rattle.constraint_frames.specs.Extension.{pool_with}
 use Rattle.constraint_frames.specs.Unique.{columns_of, made-judged}
 use Rattle.constraint_frames.proofs.Extending.{judged_passed}
 use Rattle.constraint_lists.specs.Lists.{step3_said, step42ns_said, Written}
@@ -34,7 +34,7 @@ use Rattle.constraint_choice.specs.Below.{each_at}
 use Rattle.constraint_build.specs.Both.{Lent, Both, room_both, fitting, listing, After}
 use Rattle.constraint_sessions.specs.Stood.{Stood}
 use Rattle.constraint_sessions.proofs.Both.{Held, made_of, first_refused, second_refused, both_stood}
-use Rattle.starkinfo_cp_prover.specs.Polynomial.{Polynomial, question_of, constrained, chosen_by, generating, Accepts, Answers, Stands, GeneratedIs}
+use Rattle.starkinfo_cp_prover.specs.Polynomial.{Polynomial, question_of, constrained, chosen_by, generating, Accepts, Stands, GeneratedIs}
 use Rattle.starkinfo_cp_prover.specs.Unique.{one-answers}
 use Rattle.starkinfo_cp_prover.specs.declared.answer.Generated.{Generated}
 

@@ -1,7 +1,7 @@
 -- THE CONSTRAINT POLYNOMIAL FROM BYTES (generate_constraint_polynomial): what is answered to frames, identities, bits, a limit of visits, counts and two contexts, and
 -- what stands in everything lent after it. The order of refusals: 1 and 9 while reading, 1 of a context, 2, 3 and 4 of the pool, the search's, 9 of the limits, 11, 5 of
 -- step3, 5 of step42ns, and 9 of the rooms. Assumes nothing: these are definitions.
-use Rattle.std.specs.Prelude.{ℕ, ◌≡◌, Bool, true, false, List, [], length}
+use Rattle.std.specs.Prelude.{ℕ, ◌≡◌, Bool, List, [], length}
 use Rattle.std.proofs.Math.Option.{Option, none, some}
 use Rattle.meaning.specs.Refusals.{Refusal, Answer, done, refused, ◌then◌}
 use Rattle.frames.specs.Order.{Input, blame_answer}
@@ -21,7 +21,6 @@ use Rattle.constraint_choice.specs.declared.answer.Refused.{Refused}
 use Rattle.constraint_choice.specs.declared.answer.Refused.TheVariants as why
 pub use Rattle.constraint_choice.specs.Choosing.{asked, question_of, OrMalformed, Accepts}
 use Rattle.constraint_build.specs.Both.{Lent, Both, listing, Totals, totals_of, After}
-use Rattle.constraint_build.specs.declared.answer.Sizes.{Sizes}
 use Rattle.constraint_build.specs.declared.answer.Made.{Made}
 use Rattle.constraint_build.specs.declared.answer.Made.TheVariants as made
 use Rattle.starkinfo_cp_prover.specs.declared.answer.Generated.{Generated}

@@ -1,8 +1,8 @@
 -- ONLY ONE OUTCOME FITS what is promised of the constraint polynomial: what is told, and everything lent after it.
 -- Assumes nothing.
 use Rattle.std.specs.Prelude.{ℕ, ◌≡◌, refl, Bool, true, false, List, [], length}
-use Rattle.std.proofs.Common.{sym, ◌∙◌, ap, subst}
-use Rattle.meaning.specs.Refusals.{Refusal, Answer, done, refused, ◌then◌}
+use Rattle.std.proofs.Common.{sym, ◌∙◌, ap}
+use Rattle.meaning.specs.Refusals.{Answer, done, refused, ◌then◌}
 use Rattle.meaning.proofs.Laws.Tests.{true-false}
 use Rattle.frames.specs.Order.{Input}
 use Rattle.frames.specs.Reading.{reading}
