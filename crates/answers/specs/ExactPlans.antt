@@ -3,7 +3,7 @@
 use Rattle.std.specs.Prelude.{ℕ, ◌≡◌, refl, Bool, cond, ◌&&◌, List, [], ◌∷◌, ◌⊎◌, ◌↔◌, length, eqb, leb}
 use Rattle.std.proofs.Common.{sym, ◌∙◌, ap, subst, inl, inr, arith, leb-true, leb-false}
 use Rattle.std.proofs.Math.Bool.{true, false}
-use Rattle.meaning.specs.Refusals.{number, Answer, done, refused, ◌then◌, answer_no}
+use Rattle.meaning.specs.Refusals.{Answer, done, refused, ◌then◌, answer_no}
 use Rattle.meaning.proofs.Laws.Tests.{number-not-zero, and_right}
 use Rattle.kinds.specs.KindBytes as kind
 use Rattle.kinds.specs.declared.reference.Reference.{Reference}

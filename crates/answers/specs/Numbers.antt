@@ -17,7 +17,7 @@ use Rattle.codegen.specs.Building.{Lists}
 use Rattle.codegen.specs.declared.asked.Wanted.{Wanted}
 use Rattle.planning.specs.Planning.{Planned}
 use Rattle.planning.specs.Ways as plan
-use Rattle.step_dimensions.specs.StepDimensions.{Given}
+use Rattle.step_dimensions.specs.StepDimensions.{Given, noted}
 use Rattle.dimensions.specs.Conditions.{SourceRefused, SourcesRefused, StepRefused, StepsRefused}
 use Rattle.search_meaning.proofs.SearchCases.{Row}
 use Rattle.records.specs.declared.PolType.{PolType}
@@ -195,6 +195,7 @@ module _ (g : Given) where
   source-has ts r w (SourceRefused.quotient_zero e c) = refl
 
   pub sources-has : (ts : List ℕ) (w : Refusal) (rs : List Reference) → SourcesRefused g ts w rs → among (number w) walk_numbers ≡ true
+  sources-has ts w [] x' = elim x' [ ]
   sources-has ts w (r ∷ rs) (SourcesRefused.this c) = source-has ts r w c
   sources-has ts w (r ∷ rs) (SourcesRefused.next d e c) = sources-has ts w rs c
 
@@ -204,8 +205,9 @@ module _ (g : Given) where
   step-has ts s w (StepRefused.no_destination e ds z q) = refl
 
   pub steps-has : (w : Refusal) (ts : List ℕ) (ss : List Step) → StepsRefused g w ts ss → among (number w) walk_numbers ≡ true
+  steps-has w ts [] x' = elim x' [ ]
   steps-has w ts (s ∷ ss) (StepsRefused.this c) = step-has ts s w c
-  steps-has w ts (s ∷ ss) (StepsRefused.next s' e c) = steps-has w _ ss c
+  steps-has w ts (s ∷ ss) (StepsRefused.next s' e c) = steps-has w (noted ts s') ss c
 
 pub dimensioned_has : (d : ℕ) (ls : List (List ℕ)) (b : List ℕ) (z : Planned) (k : ℕ) → Dimensioned d ls b z k → among k walk_numbers ≡ true
 dimensioned_has d ls b z k (Dimensioned.met w c) = steps-has _ w _ _ c

@@ -47,7 +47,18 @@ pub extern "C" fn enonkasse_constraint_pool(
 ) -> u8
     ensures { PoolNumbered frames.now identities.now chosen.now vc (columns n_cm1 n_cm2 commitments quotients) out.old out.new numbers.old numbers.new result }
 {
-    constraint_host::extend::enonkasse_constraint_pool(frames, identities, chosen, vc, n_cm1, n_cm2, commitments, quotients, out, numbers)
+    constraint_host::extend::enonkasse_constraint_pool(
+        frames,
+        identities,
+        chosen,
+        vc,
+        n_cm1,
+        n_cm2,
+        commitments,
+        quotients,
+        out,
+        numbers,
+    )
 }
 
 // Searches, adds the constraint to the pool, and makes step3 in the first context and step42ns in the second: all of it or nothing. Says q and the visits, how many steps
@@ -80,5 +91,29 @@ pub extern "C" fn enonkasse_constraint(
 ) -> u8
     ensures { ConstraintNumbered frames.now (asked identities.now vc n_bits n_bits_ext limit (before n_cm1 n_cm2 commitments)) (lent context.old list.old (lists first.old i.old last.old)) (lent context_2ns.old list_2ns.old (lists first_2ns.old i_2ns.old last_2ns.old)) out.old chosen.old found.old totals.old (lent context.new list.new (lists first.new i.new last.new)) (lent context_2ns.new list_2ns.new (lists first_2ns.new i_2ns.new last_2ns.new)) out.new chosen.new found.new totals.new result }
 {
-    constraint_host::whole::enonkasse_constraint(frames, identities, vc, n_bits, n_bits_ext, limit, n_cm1, n_cm2, commitments, context, list, first, i, last, context_2ns, list_2ns, first_2ns, i_2ns, last_2ns, out, chosen, found, totals)
+    constraint_host::whole::enonkasse_constraint(
+        frames,
+        identities,
+        vc,
+        n_bits,
+        n_bits_ext,
+        limit,
+        n_cm1,
+        n_cm2,
+        commitments,
+        context,
+        list,
+        first,
+        i,
+        last,
+        context_2ns,
+        list_2ns,
+        first_2ns,
+        i_2ns,
+        last_2ns,
+        out,
+        chosen,
+        found,
+        totals,
+    )
 }

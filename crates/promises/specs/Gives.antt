@@ -1,10 +1,8 @@
 -- WHICH NUMBERS AN EXPORTED FUNCTION GIVES, and that it gives no other.
 -- Assumes nothing.
 use Rattle.std.specs.Prelude.{ℕ, ◌≡◌, refl, true, List, [], ◌∷◌}
-use Rattle.frames.specs.Exactly as frames
 use Rattle.pool.specs.Trees.{forest}
 use Rattle.pool.specs.Numbered.{pool_of}
-use Rattle.planning.specs.Ways as plan
 use Rattle.search_meaning.proofs.SearchCases.{Row}
 use Rattle.answers.specs.Ways.{OfPool, ServeRead, BuildRead, Ran, EvaluateRead, Mapped, Fixed, Queried, Dimensioned}
 use Rattle.sets.specs.Members.{members}
