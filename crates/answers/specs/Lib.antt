@@ -1,10 +1,6 @@
 -- What the exported functions answer: the ways to each number, that a number comes exactly by its ways, and that a list is its bytes.
 pub mod Ways
-pub mod Exact
-pub mod ExactPlans
 pub mod ConstraintWays
-pub mod ExactConstraint
 pub mod PolynomialWays
-pub mod ExactPolynomial
 pub mod Numbers
 pub mod ListBytes

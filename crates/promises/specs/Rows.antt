@@ -43,12 +43,12 @@ use Rattle.starkinfo_cp_prover.specs.Polynomial.{asked}
 use Rattle.constraint_choice.specs.declared.answer.Before.{Before}
 use Rattle.constraint_host.specs.Whole.{ConstraintNumbered}
 use Rattle.answers.specs.PolynomialWays.{ConstraintWay}
-use Rattle.answers.specs.ExactPolynomial.{of-constraint}
+use Rattle.answers.proofs.ExactPolynomial.{of-constraint}
 use Rattle.answers.specs.ConstraintWays.{MarkWay, CloseWay, ExtendWay}
-use Rattle.answers.specs.ExactConstraint.{of-mark, of-close, of-extend}
+use Rattle.answers.proofs.ExactConstraint.{of-mark, of-close, of-extend}
 use Rattle.answers.specs.Ways.{FreshWay, ServeWay, BuildWay, RunWay, EvaluateWay, MapWay, FixWay, QueryWay, DimensionWay, FirstWay, SearchWay, SectionWay}
-use Rattle.answers.specs.Exact.{of-serve, of-build, of-run, of-evaluate, of-search}
-use Rattle.answers.specs.ExactPlans.{of_map, of-fix, of-query, of-dimension, of-dimension-first, of-section}
+use Rattle.answers.proofs.Exact.{of-serve, of-build, of-run, of-evaluate, of-search}
+use Rattle.answers.proofs.ExactPlans.{of_map, of-fix, of-query, of-dimension, of-dimension-first, of-section}
 
 -- ── the statement ────────────────────────────────────────────────────────────
 -- A CALL that is answered with n: the function, what it takes, and that its contract holds of what stands after it

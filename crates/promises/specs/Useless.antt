@@ -1,10 +1,9 @@
 -- THE FIVE USELESS PROGRAMS that document 01 names, each with the statement that it breaks: one that refuses everything, one with a fixed list, one with no list, one that only marks
--- after the first request, and one that invents visits.
+-- after the first request, and one that invents visits. What document 01's two runs say against the first two is in proofs/Useless.antt.
 -- Assumes nothing.
-use Rattle.std.specs.Prelude.{ℕ, ◌*◌, ◌<◌, ◌≤◌, ◌≡◌, List, [], ◌∷◌, length, get_or, set}
+use Rattle.std.specs.Prelude.{ℕ, ◌<◌, ◌≡◌, List, [], ◌∷◌, length, get_or, set}
 use Rattle.std.proofs.Common.{sym, ◌∙◌, ap, arith, length-set, get_or-set_same, get_or-set_other}
 use Rattle.std.proofs.Math.Option.{some, none-ne-some, some-injective}
-use Rattle.kinds.specs.Steps.{step_size}
 use Rattle.meaning.specs.Refusals.{Answer, done, refused, answer_no, ◌then◌}
 use Rattle.meaning.specs.Trees.{Forest, Each, Member}
 use Rattle.meaning.specs.Values.{Algebra, Given, value}
@@ -22,35 +21,15 @@ use Rattle.evaluator.specs.Laws.Written.{run_covers}
 use Rattle.search_meaning.specs.Search.{Choice, search}
 use Rattle.sets.specs.Members.{members}
 use Rattle.degree_search.specs.Searching.{asking, searched}
-use Rattle.host.specs.Runs.{RunNumbered}
 use Rattle.host.specs.Searches.{SearchNumbered, set_is, choice_told}
 use Rattle.promises.specs.Rows.{Call, Holds, rows}
-use Rattle.promises.specs.Sample.{frames, first_run, second_run}
 
 -- ── refusing everything ──────────────────────────────────────────────────────
 -- wherever row 0 holds of a call, whatever the function, its number is 0
 pub not-refused : {n : ℕ} (c : Call n) → Holds c 0 → n ≡ 0
 not-refused c h = (rows c 0).1 h
 
--- and document 01's first run is such a call: with room for a step, the whole run answers it with 0
-pub sample_not-refused : (l l' z z' : List ℕ) (n : ℕ) → step_size ≤ length l → RunNumbered (frames 1) l l' z z' n → n ≡ 0
-sample_not-refused l l' z z' n room h = (first_run.runs l l' z z' n (omega (arith, room)) h).0
-
 -- ── a fixed list ─────────────────────────────────────────────────────────────
--- the second run has two steps where the first has one: with the same room no program may tell the same of both
-pub not-fixed :
-    (l z l₁ l₂ z₁ z₂ : List ℕ) (n₁ n₂ : ℕ) → step_size * 2 ≤ length l → 0 < length z → RunNumbered (frames 1) l l₁ z z₁ n₁ → RunNumbered (frames 0) l l₂ z z₂ n₂ → z₁ ≡ z₂ → ⊥
-not-fixed l z l₁ l₂ z₁ z₂ n₁ n₂ room some-room g h same =
-    let a = (first_run.runs l l₁ z z₁ n₁ (omega (arith, room)) g).2 in
-    let b = (second_run.runs l l₂ z z₂ n₂ (omega (arith, room)) h).2 in
-    let x : get_or z₁ 0 0 ≡ 1 = ap (λ (y : List ℕ). get_or y 0 0) a ∙ told z 1 0 some-room in
-    let y : get_or z₂ 0 0 ≡ 2 = ap (λ (y : List ℕ). get_or y 0 0) b ∙ told z 2 1 some-room in
-    let e : get_or z₁ 0 0 ≡ get_or z₂ 0 0 = ap (λ (y : List ℕ). get_or y 0 0) same in
-    omega (arith, x, y, e)
-  where
-    told : (z : List ℕ) (a b : ℕ) → 0 < length z → get_or (set (set z 0 a) 1 b) 0 0 ≡ a
-    told z a b k = get_or-set_other (set z 0 a) 1 0 b 0 (λ e. omega (arith, e)) ∙ get_or-set_same z 0 a 0 k
-
 -- of any two pools: one list that computes a request of both gives it the same value in both
 pub same-list-same-value :
     (𝓐 : Algebra) (G : Given 𝓐.A) (E₁ E₂ : Forest) (steps : List Step) (q : Request) (qs₁ qs₂ : List Request) →

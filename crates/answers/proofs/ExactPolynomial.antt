@@ -42,7 +42,7 @@ use Rattle.starkinfo_cp_prover.specs.Polynomial.{Polynomial, question_of, chosen
 use Rattle.constraint_choice.specs.declared.answer.Before.{Before}
 use Rattle.answers.specs.Ways.{OfPool}
 use Rattle.answers.specs.PolynomialWays as way
-use Rattle.answers.specs.Exact.{both, of-frames, of-pool}
+use Rattle.answers.proofs.Exact.{both, of-frames, of-pool}
 
 -- ── one list ─────────────────────────────────────────────────────────────────
 -- each block of a good context has a step

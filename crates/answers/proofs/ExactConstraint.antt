@@ -20,7 +20,7 @@ use Rattle.constraint_frames.specs.Extension.{Question, Extension, extension, ex
 use Rattle.constraint_host.specs.Exactly.{MarkCase, mark-case, mark_9, mark_1, mark_3, SomeBlock, CloseCase, close-case, close_1, close_8, close_9}
 use Rattle.answers.specs.Ways.{OfPool}
 use Rattle.answers.specs.ConstraintWays as way
-use Rattle.answers.specs.Exact.{both, of-frames, of-pool}
+use Rattle.answers.proofs.Exact.{both, of-frames, of-pool}
 
 -- ── enonkasse_mark ───────────────────────────────────────────────────────────
 module _ (es : List ℕ) (m : ℕ) (x l : List ℕ) (a : Answer Said) (h : MarkAnswered es m x l a) where

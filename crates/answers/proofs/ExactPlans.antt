@@ -51,7 +51,7 @@ use Rattle.records.specs.Exactly as records
 use Rattle.records.specs.declared.PolType.{PolType}
 use Rattle.answers.specs.Ways as way
 use Rattle.answers.specs.Ways.{OfPlan}
-use Rattle.answers.specs.Exact.{both}
+use Rattle.answers.proofs.Exact.{both}
 
 -- ── a plan ───────────────────────────────────────────────────────────────────
 -- where there is a plan, what else the function takes is well formed

@@ -1,0 +1,4 @@
+pub mod Exact
+pub mod ExactPolynomial
+pub mod ExactPlans
+pub mod ExactConstraint

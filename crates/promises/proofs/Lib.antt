@@ -1,0 +1,2 @@
+-- The theorems that rest on definitions which a must-fail edit changes.
+pub mod Useless
