@@ -11,8 +11,8 @@ const FOLDER_VARIABLE: &str = "ENONKASSE_LIBRARY";
 /// From this manifest.
 const FOLDER: &str = "../../target/staticlib";
 
-/// The object that is put into it last.
-const LAST_OBJECT: &[u8] = b"records.o";
+/// The object that holds the exported functions.
+const OBJECT: &[u8] = b"host_c.o";
 
 fn main() {
     println!("cargo:rerun-if-env-changed={}", FOLDER_VARIABLE);
@@ -26,7 +26,7 @@ fn main() {
     let archive = folder.join("libhost.a");
     println!("cargo:rerun-if-changed={}", archive.display());
     let bytes = fs::read(&archive).unwrap_or_default();
-    if !bytes.windows(LAST_OBJECT.len()).any(|part| part == LAST_OBJECT) {
+    if !bytes.windows(OBJECT.len()).any(|part| part == OBJECT) {
         eprintln!("{} is not there, or not whole: tools/library.sh makes it", archive.display());
         process::exit(1);
     }

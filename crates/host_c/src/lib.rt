@@ -4,6 +4,6 @@
 
 pub mod constraint;
 pub mod generation;
-pub mod plans;
-pub mod records;
+pub mod plan;
 pub mod search;
+pub mod structs;
