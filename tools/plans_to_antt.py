@@ -21,27 +21,25 @@ TARGET = "crates/replay_plans/specs/Vectors"
 FAMILIES = {"m": "Surprises", "edge": "Edges", "order": "Orders", "shape": "Shapes", "random": "Random"}
 CYCLE = ["refused 4"]
 USES = """-- Assumes nothing.
-use mathlib.Core.Path.{_≡_, refl}
-use mathlib.Core.Bool.{true}
-use mathlib.Core.List.{List, [], _∷_}
-use Rattle·frames.specs.Tables.{first}
-use Rattle·kinds.specs.BigEndian.{u16At}
-use Rattle·kinds.specs.Kinds.{childCount}
-use Rattle·kinds.specs.Range.{within}
-use Rattle·pool.specs.Trees.{tree}
-use Rattle·pool.specs.Admission.{shape}
-use Rattle·exp_dims.specs.Dimension.{expDim}
-use Rattle·plans.specs.Plan.{numberAt, isPlan}
-use Rattle·plans.specs.Columns as plan
-use Rattle·plans.specs.Columns.{among, isIm, adding, fits}
-use Rattle·plans.specs.Agreement.{namesThere, bitsGood, countsAgree}
-use Rattle·map_records.specs.Mapping.{column, cm1s, lookups, products, intermediates, qDim, quotients, mapped, someNone}
-use Rattle·sections.specs.Sections.{placed, positionOf, firstWidth, wholeWidth, thirdWidth}
-use Rattle·replay_plans·specs.specs.Replay.{Vector, vector, node, root, agree}
+use Rattle.std.specs.Prelude.{◌≡◌, refl, true, List, [], ◌∷◌}
+use Rattle.frames.specs.Tables.{first}
+use Rattle.kinds.specs.BigEndian.{u16_at}
+use Rattle.kinds.specs.Kinds.{child_count}
+use Rattle.kinds.specs.Range.{within}
+use Rattle.pool.specs.Trees.{tree}
+use Rattle.pool.specs.Admission.{shape}
+use Rattle.exp_dims.specs.Dimension.{exp_dim}
+use Rattle.plans.specs.Plan.{number_at, is_plan}
+use Rattle.plans.specs.Columns as plan
+use Rattle.plans.specs.Columns.{among, is_im, adding, fits}
+use Rattle.plans.specs.Agreement.{names_there, bits_good, counts_agree}
+use Rattle.map_records.specs.Mapping.{column, cm1s, lookups, products, intermediates, quotient_dim, quotients, mapped, some_none}
+use Rattle.sections.specs.Sections.{placed, position_of, first_width, whole_width, third_width}
+use Rattle.replay_plans.specs.Replay.{Vector, vector, node, root, agree}
 """
 UNFOLDING = (
-    "first u16At childCount within tree shape expDim numberAt isPlan plan.lookups plan.products among isIm adding fits namesThere "
-    "bitsGood countsAgree column cm1s lookups products intermediates qDim quotients mapped someNone placed positionOf firstWidth wholeWidth thirdWidth vectors"
+    "first u16_at child_count within tree shape exp_dim number_at is_plan plan.lookups plan.products among is_im adding fits names_there "
+    "bits_good counts_agree column cm1s lookups products intermediates quotient_dim quotients mapped some_none placed position_of first_width whole_width third_width vectors"
 )
 DIMENSIONS = "Dimensions"
 SECTIONS = "Sections"
@@ -50,14 +48,14 @@ SECTION_COUNT = 11
 NO_RECORD = 0xFFFF
 # each walk that is asked for: its constructor, and the module of its vectors
 WALKS = {
-    "fix n": ("fixN", "Fixing"),
+    "fix n": ("fix_n", "Fixing"),
     "fix 2ns": ("fix2ns", "Fixing"),
     "query": ("query", "Queries"),
     "dims": ("dims", "Passes"),
-    "dims_first": ("dimsFirst", "Passes"),
-    "fix_dims n": ("fixDimsN", "FixedPasses"),
-    "fix_dims 2ns": ("fixDims2ns", "FixedPasses"),
-    "query_dims": ("queryDims", "FixedPasses"),
+    "dims_first": ("dims_first", "Passes"),
+    "fix_dims n": ("fix_dims_n", "FixedPasses"),
+    "fix_dims 2ns": ("fix_dims2ns", "FixedPasses"),
+    "query_dims": ("query_dims", "FixedPasses"),
 }
 KINDS = {
     "cm": 0x10, "const": 0x11, "exp": 0x12, "q": 0x13, "number": 0x14, "public": 0x15, "challenge": 0x16, "eval": 0x17, "xDivXSubXi": 0x18,
@@ -66,31 +64,29 @@ KINDS = {
 }  # fmt: skip
 STEPS = {"add": 1, "sub": 2, "mul": 3, "muladd": 4, "copy": 8}
 SECTION_USES = """-- Assumes nothing.
-use mathlib.Core.Path.{_≡_, refl}
-use mathlib.Core.Bool.{true}
-use mathlib.Core.List.{List, [], _∷_}
-use Rattle·kinds.specs.Range.{within}
-use Rattle·sections.specs.Sections.{placed, positionOf, firstWidth, wholeWidth, thirdWidth}
-use Rattle·replay_plans·specs.specs.Replay.{Placing, placing, agreePlaced}
+use Rattle.std.specs.Prelude.{◌≡◌, refl, true, List, [], ◌∷◌}
+use Rattle.kinds.specs.Range.{within}
+use Rattle.sections.specs.Sections.{placed, position_of, first_width, whole_width, third_width}
+use Rattle.replay_plans.specs.Replay.{Placing, placing, agree_placed}
 """
-SECTION_UNFOLDING = "within placed positionOf firstWidth wholeWidth thirdWidth vectors"
-WALK_USES = USES.replace("use Rattle·replay_plans·specs.specs.Replay.{Vector, vector, node, root, agree}\n", """use Rattle·kinds.specs.Kinds.{isReference, isLeaf}
-use Rattle·kinds.specs.StepOps.{isStep, sourcesNeeded}
-use Rattle·lent_lists.specs.Records as lists
-use Rattle·lent_lists.specs.Records.{runs, usedBy, recordBy}
-use Rattle·lent_lists.specs.Walks.{walked, usedVerdict, recordVerdict}
-use Rattle·fixing.specs.ProverCode.{ruleKind, ruleId, ruleDim, ruleFor, ruledReference, meetReference, meetUsed, meetRecord, meetRecords, fixReference}
-use Rattle·query_fixing.specs.QueryCode.{treeFor, treeKind, treePosition, treeDim, hasTree, treedReference, treeReference}
-use Rattle·step_dimensions.specs.Rules.{ruleNo, isDestination}
-use Rattle·step_dimensions.specs.StepDimensions.{through, sourceDim, sourceDims, largest, stepWith, noted}
-use Rattle·dimensions.specs.Dimensions.{passed}
-use Rattle·replay_plans·specs.specs.Replay.{node, root}
-use Rattle·replay_plans·specs.specs.Walks.{WalkVector, walkVector, lists′, ref, step, blank, fixN, fix2ns, query, dims, dimsFirst, fixDimsN, fixDims2ns, queryDims, no-more, becomes, agreeWalked}
+SECTION_UNFOLDING = "within placed position_of first_width whole_width third_width vectors"
+WALK_USES = USES.replace("use Rattle.replay_plans.specs.Replay.{Vector, vector, node, root, agree}\n", """use Rattle.kinds.specs.Kinds.{is_reference, is_leaf}
+use Rattle.kinds.specs.StepOps.{is_step, sources_needed}
+use Rattle.lent_lists.specs.Records as lists
+use Rattle.lent_lists.specs.Records.{runs, used_by, record_by}
+use Rattle.lent_lists.specs.Walks.{walked, used_verdict, record_verdict}
+use Rattle.fixing.specs.ProverCode.{rule_kind, rule_id, rule_dim, rule_for, ruled_reference, meet_reference, meet_used, meet_record, meet_records, fix_reference}
+use Rattle.query_fixing.specs.QueryCode.{tree_for, tree_kind, tree_position, tree_dim, has_tree, treed_reference, tree_reference}
+use Rattle.step_dimensions.specs.Rules.{rule_no, is_destination}
+use Rattle.step_dimensions.specs.StepDimensions.{through, source_dim, source_dims, largest, step_with, noted}
+use Rattle.dimensions.specs.Dimensions.{passed}
+use Rattle.replay_plans.specs.Replay.{node, root}
+use Rattle.replay_plans.specs.Walks.{WalkVector, walk_vector, lists', ref, step, blank, fix_n, fix2ns, query, dims, dims_first, fix_dims_n, fix_dims2ns, query_dims, no_more, becomes, agree_walked}
 """)
 WALK_UNFOLDING = UNFOLDING + (
-    " isReference isLeaf isStep sourcesNeeded runs usedBy recordBy lists.mapped walked usedVerdict recordVerdict ruleKind ruleId ruleDim "
-    "ruleFor ruledReference meetReference meetUsed meetRecord meetRecords fixReference treeFor treeKind treePosition treeDim hasTree treedReference "
-    "treeReference ruleNo isDestination through sourceDim sourceDims largest stepWith noted passed"
+    " is_reference is_leaf is_step sources_needed runs used_by record_by lists.mapped walked used_verdict record_verdict rule_kind rule_id rule_dim "
+    "rule_for ruled_reference meet_reference meet_used meet_record meet_records fix_reference tree_for tree_kind tree_position tree_dim has_tree treed_reference "
+    "tree_reference rule_no is_destination through source_dim source_dims largest step_with noted passed"
 )
 HEAD = ["pu", "pe", "ci", "im", "qs", "q2exp"]
 
@@ -181,15 +177,15 @@ def step(line):
 def segment(lines):
     counter = next(line.split()[1] for line in lines if line.startswith("counter"))
     lists = [listed(step(line.split(" ", 1)[1]) for line in lines if line.startswith(key + " ")) for key in ("first", "i", "last")]
-    return f"(lists′ {counter} {' '.join(lists)})"
+    return f"(lists' {counter} {' '.join(lists)})"
 
 
 def walk(name, question, answers, constructor):
     asked = ("counter", "first ", "i ", "last ")
     head = vector(name, [line for line in question if not line.startswith(asked)], []).splitlines()[2:5]
     refused = answers[0].startswith("refused")
-    outcome = f"(no-more {answers[0].split()[1]})" if refused else f"(becomes {segment(answers)})"
-    return f"    -- {name}\n    walkVector\n" + "\n".join(head) + f"\n    {constructor}\n    {segment(question)}\n    {outcome} ∷\n"
+    outcome = f"(no_more {answers[0].split()[1]})" if refused else f"(becomes {segment(answers)})"
+    return f"    -- {name}\n    walk_vector\n" + "\n".join(head) + f"\n    {constructor}\n    {segment(question)}\n    {outcome} ∷\n"
 
 
 def module(title, uses, kind, vectors, agree, unfolding):
@@ -217,10 +213,10 @@ def modules():
             walks[target].append(walk(name, rest, answers, constructor))
     for key, vectors in families.items():
         yield FAMILIES[key], module(f"of the family {key}", USES, "Vector", vectors, "agree", UNFOLDING)
-    yield DIMENSIONS, module("that ask for the dimensions of expressions", USES.replace("agree}", "agreeDims}"), "Vector", dims, "agreeDims", UNFOLDING)
+    yield DIMENSIONS, module("that ask for the dimensions of expressions", USES.replace("root, agree}", "root, agree_dims}"), "Vector", dims, "agree_dims", UNFOLDING)
     for target, vectors in walks.items():
-        yield target, module("of walks", WALK_USES, "WalkVector", vectors, "agreeWalked", WALK_UNFOLDING)
-    yield SECTIONS, module("that ask for sections", SECTION_USES, "Placing", sections, "agreePlaced", SECTION_UNFOLDING)
+        yield target, module("of walks", WALK_USES, "WalkVector", vectors, "agree_walked", WALK_UNFOLDING)
+    yield SECTIONS, module("that ask for sections", SECTION_USES, "Placing", sections, "agree_placed", SECTION_UNFOLDING)
 
 
 def main():

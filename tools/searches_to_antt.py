@@ -16,20 +16,18 @@ TARGET = "crates/replay_searches/specs/Vectors"
 # each family's module
 FAMILIES = {"doc": "Document", "s": "Surprises", "edge": "Edges", "order": "Orders", "limit": "Limits", "random": "Random"}
 USES = """-- Assumes nothing.
-use mathlib.Core.Path.{_≡_, refl}
-use mathlib.Core.Bool.{true, false}
-use mathlib.Core.List.{List, [], _∷_}
-use Rattle·meaning.specs.Trees.{lit, cm, const, q, public, challenge, eval, xDivXSubXi, xDivXSubWXi, plainX, add, sub, mul, addc, mulc, cell, exp, number, flat, x, leaf, bin, muladd, binc, neg}
-use Rattle·search_meaning.specs.Degrees.{fullTable}
-use Rattle·search_meaning.specs.Search.{search}
-use Rattle·replay_meaning.specs.Replay.{expression}
-use Rattle·replay_searches·specs.specs.Replay.{Vector, vector, agree}
+use Rattle.std.specs.Prelude.{◌≡◌, refl, true, false, List, [], ◌∷◌}
+use Rattle.meaning.specs.Trees.{lit, cm, const, q, public, challenge, eval, x_div_x_sub_xi, x_div_x_sub_w_xi, plain_x, add, sub, mul, addc, mulc, cell, exp, number, flat, x, leaf, bin, muladd, binc, neg}
+use Rattle.search_meaning.specs.Degrees.{full_table}
+use Rattle.search_meaning.specs.Search.{search}
+use Rattle.replay_meaning.specs.Replay.{expression}
+use Rattle.replay_searches.specs.Replay.{Vector, vector, agree}
 """
 CONSTRAINT = "Constraint"
 CONSTRAINT_USES = (
-    USES.replace("Bool.{true, false}", "Bool.{true, false}\nuse mathlib.Core.Option.{none}")
+    USES.replace("◌∷◌}\n", "◌∷◌}\nuse Rattle.std.proofs.Math.Option.{none}\n")
     .replace("{expression}", "{ask, build, expression}")
-    .replace("specs.specs.Replay.{Vector, vector, agree}", "specs.specs.Constraints.{asked, Vector, vector, agree}")
+    .replace("replay_searches.specs.Replay.{Vector, vector, agree}", "replay_searches.specs.Constraints.{asked, Vector, vector, agree}")
 )
 NODE = 0x01
 # cm, const, exp, q
@@ -60,7 +58,7 @@ def vector(name, question, answers):
 
 
 def tree_numbers(nodes, number, start):
-    """The tree at a node in prefix order with the numbers of its nodes, as `treeNumbers` of Constraints.antt gives it; the first node has
+    """The tree at a node in prefix order with the numbers of its nodes, as `tree_numbers` of Constraints.antt gives it; the first node has
     number `start`."""
     frame = nodes[number - start]
     kind, ahead, ident, count = frame[1], frame[2], int.from_bytes(frame[3:5], "big"), frame[5]
@@ -108,7 +106,7 @@ def constraint(name, question, answers):
 def module(title, vectors, uses=USES):
     text = f"-- The {len(vectors)} vectors {title}, made by tools/searches_to_antt.py.\n{uses}\n"
     text += "unfoldable pub vectors : List Vector\nvectors =\n" + "".join(vectors) + "    []\n\n"
-    return text + "-- THE DEFINITIONS GIVE THE ORIGINAL'S ANSWERS\npub all-agree : agree vectors ≡ true\nunfolding search fullTable vectors\nall-agree = refl\n"
+    return text + "-- THE DEFINITIONS GIVE THE ORIGINAL'S ANSWERS\npub all-agree : agree vectors ≡ true\nunfolding search full_table vectors\nall-agree = refl\n"
 
 
 def modules():

@@ -10,6 +10,7 @@ Each family of vectors becomes a module with a table and one statement, proved b
 This script turns the nodes of frames into trees.
 """
 import os
+import re
 import sys
 
 SOURCE = "vectors/generation.txt"
@@ -25,9 +26,9 @@ FAMILIES = {
 }
 ROWED = {0x10: "cm", 0x11: "const", 0x13: "q"}
 FLAT = {0x15: "public", 0x16: "challenge", 0x17: "eval"}
-X = {0x18: "xDivXSubXi", 0x19: "xDivXSubWXi", 0x1A: "plainX"}
+X = {0x18: "x_div_x_sub_xi", 0x19: "x_div_x_sub_w_xi", 0x1A: "plain_x"}
 BARE = {0x23: "Zi", 0x24: "tree1", 0x25: "tree2", 0x26: "tree3", 0x27: "tree4", 0x28: "Z"}
-MADE = {0x12: "exp", 0x20: "tmp", 0x21: "f", 0x22: "tmpExp"}
+MADE = {0x12: "exp", 0x20: "tmp", 0x21: "f", 0x22: "tmp_exp"}
 BINARY = {0x01: "add", 0x02: "sub", 0x03: "mul"}
 WITH_LITERAL = {0x05: "addc", 0x06: "mulc"}
 
@@ -163,14 +164,12 @@ def family_of(name):
 
 HEADER = """-- The {count} vectors of the family {family}, made by tools/vectors_to_antt.py.
 -- Assumes nothing.
-use mathlib.Core.Path.{{_≡_, refl}}
-use mathlib.Core.Bool.{{true, false}}
-use mathlib.Core.Option.{{none, some}}
-use mathlib.Core.List.{{List, [], _∷_}}
-use Rattle·meaning.specs.Trees.{{lit, cm, const, q, public, challenge, eval, xDivXSubXi, xDivXSubWXi, plainX, add, sub, mul, addc, mulc, cell, exp, number, flat, x, leaf, bin, muladd, binc, neg}}
-use Rattle·meaning.specs.Steps.{{Zi, tree1, tree2, tree3, tree4, Z, Kind}}
-use Rattle·meaning.specs.Generation.{{result}}
-use Rattle·replay_meaning·specs.specs.Replay.{{Vector, vector, ask, build, expression, agree}}
+use Rattle.std.specs.Prelude.{{◌≡◌, refl, true, false, List, [], ◌∷◌}}
+use Rattle.std.proofs.Math.Option.{{none, some}}
+use Rattle.meaning.specs.Trees.{{lit, cm, const, q, public, challenge, eval, x_div_x_sub_xi, x_div_x_sub_w_xi, plain_x, add, sub, mul, addc, mulc, cell, exp, number, flat, x, leaf, bin, muladd, binc, neg}}
+use Rattle.meaning.specs.Steps.{{Zi, tree1, tree2, tree3, tree4, Z, Kind}}
+use Rattle.meaning.specs.Generation.{{result}}
+use Rattle.replay_meaning.specs.Replay.{{Vector, vector, ask, build, expression, agree}}
 
 """
 
@@ -182,6 +181,20 @@ def module(family, vectors):
     text += "".join(f"    -- {n}\n    {vector(s, a)} ∷\n" for n, s, a in vectors) + "    []\n\n"
     text += "pub agreed : agree vectors ≡ true\nunfolding vectors\nagreed = refl\n"
     return f"{TARGET}/{name}.antt", text
+
+
+def named(text):
+    """The text without the names on its `use` lines that nothing below them uses, as `rt tidy` leaves it."""
+    lines = text.split("\n")
+    uses = [line for line in lines if line.startswith("use ")]
+    body = "\n".join(line.partition("--")[0] for line in lines if not line.startswith("use "))
+    words = set(re.findall(r"(?<![^\s(){},;])[^\s(){}.,;]+", body))
+    kept = {}
+    for use in uses:
+        module, brace, names = use.partition(".{")
+        stays = [name for name in names.rstrip("}").split(", ") if not brace or name == "[]" or name.strip("◌") in words]
+        kept[use] = use if not brace else module + brace + ", ".join(stays) + "}" if stays else None
+    return "\n".join(kept.get(line, line) for line in lines if kept.get(line, line) is not None)
 
 
 def read(path):
@@ -198,7 +211,7 @@ def write_or_check(modules, source, target, usage):
         sys.exit(usage)
     wrong = []
     for name, text in modules:
-        path = os.path.join(target, name + ".antt")
+        path, text = os.path.join(target, name + ".antt"), named(text)
         if not check:
             with open(path, "w", encoding="utf-8") as out:
                 out.write(text)
@@ -218,6 +231,7 @@ def main():
         by_family[family_of(name)].append((name, script, answers))
     for family, vectors in by_family.items():
         path, text = module(family, vectors)
+        text = named(text)
         if not check:
             os.makedirs(TARGET, exist_ok=True)
             with open(path, "w", encoding="utf-8") as out:
