@@ -26,19 +26,19 @@ def read(path):
         return f.read()
 
 
-def lines_of(crate, name):
-    path = f"crates/{crate}/specs/{name}.antt"
+def lines_of(crate, part, name):
+    path = f"crates/{crate}/{part}/{name}.antt"
     return read(path).count("\n") if os.path.exists(os.path.join(ROOT, path)) else None
 
 
 def believed(text):
-    """The places in a table's row where a definition file's lines stand: the crate, the file, the number and where it is."""
-    for group in re.finditer(r"`(\w+)/specs/(\w+)` (\d+)", text):
-        yield group[1], group[2], int(group[3]), group.span(3)
-    for group in re.finditer(r"`(\w+)/specs`: ((?:`\w+` \d+(?:, )?)+)", text):
-        for file in FILE.finditer(group[2]):
-            start = group.start(2) + file.start(2)
-            yield group[1], file[1], int(file[2]), (start, start + len(file[2]))
+    """The places in a table's row where a definition file's lines stand: the crate, its part, the file, the number and where it is."""
+    for group in re.finditer(r"`(\w+)/(specs|proofs)/(\w+)` (\d+)", text):
+        yield group[1], group[2], group[3], int(group[4]), group.span(4)
+    for group in re.finditer(r"`(\w+)/(specs|proofs)`: ((?:`\w+` \d+(?:, )?)+)", text):
+        for file in FILE.finditer(group[3]):
+            start = group.start(3) + file.start(2)
+            yield group[1], group[2], file[1], int(file[2]), (start, start + len(file[2]))
 
 
 def put_right(text):
@@ -46,15 +46,15 @@ def put_right(text):
     at = text.index(BELIEVED)
     end = text.index("\n## ", at + 1)
     section, wrong, total, files = text[at:end], [], 0, 0
-    for crate, name, said, (start, stop) in sorted(believed(section), key=lambda found: -found[3][0]):
+    for crate, part, name, said, (start, stop) in sorted(believed(section), key=lambda found: -found[4][0]):
         files += 1
-        lines = lines_of(crate, name)
+        lines = lines_of(crate, part, name)
         if lines is None:
-            wrong.append(f"{PROMISES}: there is no crates/{crate}/specs/{name}.antt")
+            wrong.append(f"{PROMISES}: there is no crates/{crate}/{part}/{name}.antt")
             continue
         total += lines
         if lines != said:
-            wrong.append(f"{PROMISES}: {crate}/specs/{name} has {lines} lines, and not {said}")
+            wrong.append(f"{PROMISES}: {crate}/{part}/{name} has {lines} lines, and not {said}")
             section = section[:start] + str(lines) + section[stop:]
     stated = SUM.search(section)
     if (int(stated[1]), int(stated[2].replace(",", ""))) != (files, total):
@@ -64,7 +64,7 @@ def put_right(text):
 
 
 def listed():
-    return [line.split(":")[0] for line in read("crates.txt").split("\n") if ":" in line.split("#")[0]]
+    return [line.split(":")[0].split()[0] for line in read("crates.txt").split("\n") if ":" in line.split("#")[0]]
 
 
 def crates_wrong():

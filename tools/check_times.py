@@ -3,8 +3,8 @@
 
     tools/check_times.py FILE COMMAND..
 
-Runs COMMAND, which proves the crates of this tree, as `rt prove` or `bash .ci/run`, and writes to FILE the seconds of processor time that each crate's
-prover took, however many were at work at a time. The status is COMMAND's; where a crate was not proved by it, FILE says so."""
+Runs COMMAND, which proves the crates of this tree, as `rt ci --anew` or `rt all check`, and writes to FILE the seconds of processor time that each crate's
+longest prover took, however many were at work at a time. The status is COMMAND's; where a crate was not proved by it, FILE says so."""
 import os
 import subprocess
 import sys
@@ -13,14 +13,13 @@ import time
 ROOT = os.path.dirname(os.path.dirname(os.path.abspath(__file__)))
 EVERY = 0.25
 TICKS = os.sysconf("SC_CLK_TCK")
-PROVED = (os.path.join(ROOT, "target", "rlib"), os.path.join(ROOT, "target", "obj"))
 
 
 def crate_of(pid):
-    """The crate of this tree that a process proves, if it does."""
+    """The crate that a process proves, if it does."""
     with open(f"/proc/{pid}/cmdline") as f:
         words = f.read().split("\0")
-    if words[1:2] != ["build"] or "-o" not in words or not words[words.index("-o") + 1].startswith(PROVED):
+    if os.path.basename(words[0]) != "rattle" or "--crate-name" not in words:
         return None
     return words[words.index("--crate-name") + 1]
 
@@ -44,7 +43,7 @@ def look(found):
 
 def listed():
     with open(os.path.join(ROOT, "crates.txt")) as f:
-        return [line.split(":")[0] for line in f if ":" in line.split("#")[0]]
+        return [line.split(":")[0].split()[0] for line in f if ":" in line.split("#")[0]]
 
 
 def table(found):

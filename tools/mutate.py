@@ -5,8 +5,8 @@
 
 With --stored the edits that stand in crates/NAME/edits/*.edit (the form is that of must-fail/, which the gate tries); else small edits
 of crates/NAME/src picked at random, the same for the same seed: a constant changed, a test negated, an operator or two operands
-swapped, a number off by one, a call dropped. One at a time they are applied to a copy of the crates under target/mutate/, and `rt dev`
-checks the crate; the edits of a crate follow each other, and so many crates are at work at a time. It needs a tree that `rt check` proved. An edit is
+swapped, a number off by one, a call dropped. One at a time they are applied to a copy of the crates under target/mutate/, and `rt check`
+checks the crate there; the edits of a crate follow each other, and so many crates are at work at a time. It needs a tree that `rt check` proved. An edit is
   refused     the crate is no longer proved
   unwritable  the compiler does not take it as a program: it is no wrong program
   SURVIVED    it is still proved: a contract is too weak, or the edit changes nothing that a caller can see
@@ -72,7 +72,7 @@ def read(path):
 
 
 def listed():
-    return [line.split(":")[0] for line in read(os.path.join(ROOT, "crates.txt")).split("\n") if ":" in line.split("#")[0]]
+    return [line.split(":")[0].split()[0] for line in read(os.path.join(ROOT, "crates.txt")).split("\n") if ":" in line.split("#")[0]]
 
 
 def small_edits(crate):
@@ -105,16 +105,18 @@ def stored_edits(crate):
         yield Edit(crate, os.path.basename(path)[: -len(".edit")], files)
 
 
+def made_by_rt(folder, names):
+    """The folder `out` of a crate, and no folder of that name among its proofs."""
+    return {"out"} if os.path.dirname(folder) == os.path.join(ROOT, "crates") else set()
+
+
 def make_copy(crate):
-    """A tree with crates of its own, over the proofs that stand here."""
+    """A tree with crates of its own; its checks begin with what those of other copies on this machine kept."""
     copy = os.path.join(COPIES, crate)
     shutil.rmtree(copy, ignore_errors=True)
-    os.makedirs(os.path.join(copy, "target"))
-    shutil.copytree(os.path.join(ROOT, "crates"), os.path.join(copy, "crates"))
+    os.makedirs(copy)
+    shutil.copytree(os.path.join(ROOT, "crates"), os.path.join(copy, "crates"), ignore=made_by_rt)
     shutil.copy(os.path.join(ROOT, "crates.txt"), copy)
-    for part in ("stamp", "log"):
-        shutil.copytree(os.path.join(ROOT, "target", part), os.path.join(copy, "target", part))
-    os.symlink(os.path.join(ROOT, "target", "rlib"), os.path.join(copy, "target", "rlib"))
     return copy
 
 
@@ -124,14 +126,14 @@ def write_files(copy, crate, files):
             f.write(text)
 
 
-def dev(copy, crate):
-    return subprocess.run(["rt", "dev", crate], cwd=copy, stdout=subprocess.PIPE, stderr=subprocess.STDOUT, text=True)
+def check(copy, crate):
+    return subprocess.run(["rt", "check"], cwd=os.path.join(copy, "crates", crate), stdout=subprocess.PIPE, stderr=subprocess.STDOUT, text=True)
 
 
 def attempt(copy, edit):
     before = {file: read(os.path.join(copy, "crates", edit.crate, file)) for file in edit.files}
     write_files(copy, edit.crate, edit.files)
-    ran = dev(copy, edit.crate)
+    ran = check(copy, edit.crate)
     write_files(copy, edit.crate, before)
     if ran.returncode == 0:
         return "SURVIVED", ran.stdout
@@ -143,7 +145,7 @@ def try_crate(crate, edits, same, end, log):
     counts = collections.Counter()
     if time.time() < end:
         copy = make_copy(crate)
-        if dev(copy, crate).returncode != 0:
+        if check(copy, crate).returncode != 0:
             sys.exit(f"{crate} is not proved before any edit")
     for edit in edits:
         if end <= time.time():
