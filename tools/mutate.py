@@ -6,7 +6,7 @@
 With --stored the edits that stand in crates/NAME/edits/*.edit (the form is that of must-fail/, which the gate tries); else small edits
 of crates/NAME/src picked at random, the same for the same seed: a constant changed, a test negated, an operator or two operands
 swapped, a number off by one, a call dropped. One at a time they are applied to a copy of the crates under target/mutate/, and `rt check`
-checks the crate there; the edits of a crate follow each other, and so many crates are at work at a time. It needs a tree that `rt check` proved. An edit is
+checks the crate there; the edits of a crate follow each other, and so many crates are at work at a time. An edit is
   refused     the crate is no longer proved
   unwritable  the compiler does not take it as a program: it is no wrong program
   SURVIVED    it is still proved: a contract is too weak, or the edit changes nothing that a caller can see

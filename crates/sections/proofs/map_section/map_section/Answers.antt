@@ -1,4 +1,4 @@
--- `sections::map_section::map_section` meets its contract: each of its answers is one law of specs/Laws/Maps.antt.
+-- `sections::map_section::map_section` meets its contract: each of its answers is one law of proofs/Laws/Maps.antt.
 -- Assumes nothing.
 use native.Mathlib.Omega.{arith}
 use Rattle.sections.proofs.Laws.Maps.{ill-dims, ill-positions, ill-widths, ill-known, too_many_lem, records_are, mapped, read-within}
