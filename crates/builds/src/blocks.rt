@@ -48,9 +48,7 @@ pub fn copy_steps(list: &[u8], out: &mut [u8], from: usize, to: usize, count: us
     requires { CopyStepsAsks (length list.now) (length out.old) from to count }
     ensures { out.new ≡ write out.old (step_size * to) (steps_bytes (records_from list.now from count)) }
 {
-    let mut i: usize = 0;
-    while i < count {
+    for i in 0..count {
         put_nth_step(out, to + i, nth_step(list, from + i));
-        i += 1;
     }
 }

@@ -28,11 +28,9 @@ fn fill_standing(blocks: &[u64; JOB_LIMIT], standing: &mut [u8; JOB_LIMIT], n: u
     requires { n ≤ 1024 }
     ensures { standing.new ≡ stand_to blocks.now n standing.old }
 {
-    let mut k: usize = 0;
-    while k < n {
+    for k in 0..n {
         let cell = cell_of(blocks[k]);
         standing[cell] = STANDS;
-        k += 1;
     }
 }
 
@@ -99,10 +97,8 @@ fn count_taken(
     ensures { result ≡ taken_to (skips_at blocks.now expressions.now m standing.now which) blocks.now n }
 {
     let mut steps: usize = 0;
-    let mut k: usize = 0;
-    while k < n {
+    for k in 0..n {
         steps += taken(blocks, expressions, standing, m, which, k);
-        k += 1;
     }
     steps
 }
@@ -122,13 +118,11 @@ fn copy_taken(
 {
     let mut from: usize = 0;
     let mut to: usize = 0;
-    let mut k: usize = 0;
-    while k < n {
+    for k in 0..n {
         let count = taken(blocks, expressions, standing, m, which, k);
         copy_steps(list, out, from, to, count);
         from += steps_of(blocks[k]);
         to += count;
-        k += 1;
     }
 }
 

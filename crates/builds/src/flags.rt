@@ -66,9 +66,7 @@ pub fn mark_released(expressions: &[u64; EXPRESSION_LIMIT], marks: &mut [u8; JOB
     requires { m ≤ expression_limit }
     ensures { marks.new ≡ release expressions.now m marks.old }
 {
-    let mut e: usize = 0;
-    while e < m {
+    for e in 0..m {
         release_one(expressions, marks, e);
-        e += 1;
     }
 }

@@ -23,12 +23,10 @@ pub fn find_block(blocks: &[u64; JOB_LIMIT], n: usize, cell: usize) -> Found
     requires { n ≤ 1024 }
     ensures { result ≡ find_block blocks.now n cell }
 {
-    let mut k: usize = 0;
-    while k < n {
+    for k in 0..n {
         if cell_of(blocks[k]) == cell {
             return Found::At(k);
         }
-        k += 1;
     }
     Found::Nothing
 }
@@ -39,10 +37,8 @@ pub fn start_of(blocks: &[u64; JOB_LIMIT], n: usize) -> usize
     ensures { result ≡ start_of blocks.now n }
 {
     let mut steps: usize = 0;
-    let mut k: usize = 0;
-    while k < n {
+    for k in 0..n {
         steps += steps_of(blocks[k]);
-        k += 1;
     }
     steps
 }

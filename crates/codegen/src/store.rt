@@ -27,10 +27,8 @@ fn settle(marks: &mut [u8; JOB_LIMIT])
     requires { length marks.old ≡ cells }
     ensures { marks.new ≡ mark_bytes (marks_of marks.old) }
 {
-    let mut c: usize = 0;
-    while c < JOB_LIMIT {
+    for c in 0..JOB_LIMIT {
         marks[c] = mark_byte(marks[c]);
-        c += 1;
     }
 }
 

@@ -13,10 +13,8 @@ pub fn put(rt: &impl Print, page: &mut [u8], used: usize, text: &[u8], n: usize)
         return used;
     }
     let from = make_room(rt, page, used, n);
-    let mut i: usize = 0;
-    while i < n {
+    for i in 0..n {
         page[from + i] = text[i];
-        i += 1;
     }
     from + n
 }

@@ -28,8 +28,7 @@ pub fn read_all(
 {
     let mut chunk = [0u8; CHUNK_SIZE];
     let mut place = Place::start();
-    let mut turn: u32 = 0;
-    while turn < CHUNKS {
+    for turn in 0..CHUNKS {
         let n = read_full(input, &mut chunk);
         match feed(
             &chunk[..n],
@@ -56,7 +55,6 @@ pub fn read_all(
         if LINE_ROOM <= place.held {
             return Feeding::Fed(place);
         }
-        turn += 1;
     }
     Feeding::Fed(place)
 }

@@ -15,13 +15,11 @@ pub fn list_members(set: &[u64; SET_WORDS], out: &mut [u64; EXPRESSION_LIMIT]) -
     ensures { Listed set.now out.old out.new result }
 {
     let mut count: usize = 0;
-    let mut e: usize = 0;
-    while e < EXPRESSION_LIMIT {
+    for e in 0..EXPRESSION_LIMIT {
         if has(set, e) {
             out[count] = e as u64;
             count += 1;
         }
-        e += 1;
     }
     count
 }

@@ -18,15 +18,13 @@ fn fill_requests(asked: &[u64], requests: &mut [u64; REQUEST_LIMIT])
     requires { FillAsks asked.now requests.old }
     ensures { FillGives asked.now requests.new }
 {
-    let mut k: usize = 0;
-    while k < asked.len() {
+    for k in 0..asked.len() {
         let request = Request {
             expression: asked[k] as u16,
             prime: THIS_ROW,
             muladd: UNFUSED,
         };
         put_request(requests, k, request);
-        k += 1;
     }
 }
 

@@ -35,22 +35,18 @@ pub fn mark_members(marks: &mut [u8; JOB_LIMIT], members: &[u64])
     requires { AllBelow expression_limit members.now }
     ensures { marks.new ≡ mark_all members.now marks.old }
 {
-    let mut k: usize = 0;
-    while k < members.len() {
+    for k in 0..members.len() {
         mark_one(marks, members[k] as usize);
-        k += 1;
     }
 }
 
 fn all_there(members: &[u64], m: usize) -> bool
     ensures { result ≡ all_below m members.now }
 {
-    let mut k: usize = 0;
-    while k < members.len() {
+    for k in 0..members.len() {
         if m <= members[k] as usize {
             return false;
         }
-        k += 1;
     }
     true
 }

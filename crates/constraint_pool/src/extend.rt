@@ -25,10 +25,8 @@ fn add_identities(
     ensures { Appends nodes.old literals.old at (identities_nodes vc at others.now) nodes.new literals.new result }
 {
     let mut next = at;
-    let mut k: usize = 0;
-    while k < others.len() {
+    for k in 0..others.len() {
         next = add_identity(nodes, literals, next, vc, others[k] as u16);
-        k += 1;
     }
     next
 }
@@ -47,11 +45,9 @@ fn add_members(
     ensures { MembersGiven nodes.old literals.old expressions.now members.now at vc cm nodes.new literals.new result }
 {
     let mut next = at;
-    let mut k: usize = 0;
-    while k < members.len() {
+    for k in 0..members.len() {
         let body = root(expressions, members[k] as usize);
         next = add_member(nodes, literals, next, vc, body, (cm + k) as u16);
-        k += 1;
     }
     next
 }

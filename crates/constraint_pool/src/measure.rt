@@ -50,11 +50,9 @@ pub fn members_size(
     ensures { MembersSizeGiven nodes.now expressions.now members.now result }
 {
     let mut size: usize = 0;
-    let mut k: usize = 0;
-    while k < members.len() {
+    for k in 0..members.len() {
         let body = root(expressions, members[k] as usize);
         size = capped(size + tree_size(nodes, body) + MEMBER_NODES);
-        k += 1;
     }
     size
 }

@@ -70,12 +70,10 @@ fn marks_good(context: &[u8], m: usize) -> bool
     requires { MarksChecked context.now m }
     ensures { Exactly result (Marks context.now m) }
 {
-    let mut cell: usize = 0;
-    while cell < JOB_LIMIT {
+    for cell in 0..JOB_LIMIT {
         if !mark_good(context[MARKS_AT + cell], cell, m) {
             return false;
         }
-        cell += 1;
     }
     true
 }
@@ -103,12 +101,10 @@ fn blocks_good(context: &[u8], m: usize) -> bool
     ensures { Exactly result (Blocks context.now m) }
 {
     let n = blocks_of(context);
-    let mut k: usize = 0;
-    while k < n {
+    for k in 0..n {
         if !block_good(context, k, m) {
             return false;
         }
-        k += 1;
     }
     true
 }
@@ -119,14 +115,12 @@ fn cells_apart(context: &[u8]) -> bool
 {
     let n = blocks_of(context);
     let mut seen = [0u8; JOB_LIMIT];
-    let mut k: usize = 0;
-    while k < n {
+    for k in 0..n {
         let cell = cell_of(entry_at(context, k));
         if seen[cell] == MARKED {
             return false;
         }
         seen[cell] = MARKED;
-        k += 1;
     }
     true
 }
@@ -137,11 +131,9 @@ fn total_steps(context: &[u8]) -> usize
 {
     let n = blocks_of(context);
     let mut steps: usize = 0;
-    let mut k: usize = 0;
-    while k < n {
+    for k in 0..n {
         let entry = entry_at(context, k);
         steps += entry.steps as usize;
-        k += 1;
     }
     steps
 }

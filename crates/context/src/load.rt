@@ -11,10 +11,8 @@ pub fn load_marks(context: &[u8], marks: &mut [u8; JOB_LIMIT])
     requires { MarksAsk context.now marks.old }
     ensures { marks.new ≡ marks_in context.now }
 {
-    let mut cell: usize = 0;
-    while cell < JOB_LIMIT {
+    for cell in 0..JOB_LIMIT {
         marks[cell] = context[MARKS_AT + cell];
-        cell += 1;
     }
 }
 
@@ -31,9 +29,7 @@ pub fn load_blocks(context: &[u8], blocks: &mut [u64; JOB_LIMIT])
     ensures { blocks.new ≡ write blocks.old 0 (words_in context.now (blocks_in context.now)) }
 {
     let n = blocks_of(context);
-    let mut k: usize = 0;
-    while k < n {
+    for k in 0..n {
         blocks[k] = word_of(entry_at(context, k));
-        k += 1;
     }
 }

@@ -27,10 +27,8 @@ pub fn store_marks(context: &mut [u8], marks: &[u8; JOB_LIMIT])
     requires { MarksAsk context.old marks.now }
     ensures { context.new ≡ with_marks context.old marks.now }
 {
-    let mut cell: usize = 0;
-    while cell < JOB_LIMIT {
+    for cell in 0..JOB_LIMIT {
         context[MARKS_AT + cell] = marks[cell];
-        cell += 1;
     }
 }
 
@@ -62,20 +60,16 @@ pub fn store_blocks(context: &mut [u8], blocks: &[u64; JOB_LIMIT], from: usize, 
     requires { StoreAsks context.old blocks.now from to }
     ensures { context.new ≡ with_blocks context.old blocks.now from to }
 {
-    let mut k = from;
-    while k < to {
+    for k in from..to {
         put_entry(context, k, entry_of(blocks[k]));
-        k += 1;
     }
 }
 
 fn clear(context: &mut [u8])
     ensures { context.new ≡ replicate (length context.old) 0 }
 {
-    let mut i: usize = 0;
-    while i < context.len() {
+    for i in 0..context.len() {
         context[i] = 0;
-        i += 1;
     }
 }
 

@@ -38,12 +38,10 @@ fn last_limit(more: u64) -> u64
 pub fn all_below(identities: &[u64], m: usize) -> bool
     ensures { result ≡ all_below m identities.now }
 {
-    let mut k = 0;
-    while k < identities.len() {
+    for k in 0..identities.len() {
         if m <= identities[k] as usize {
             return false;
         }
-        k += 1;
     }
     true
 }

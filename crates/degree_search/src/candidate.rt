@@ -35,15 +35,13 @@ fn tick_all(tally: &mut [u64; TALLY_WORDS], n: usize) -> bool
     requires { Whole tally.old }
     ensures { Ticked tally.old n result tally.new }
 {
-    let mut k = 0;
-    while k < n {
+    for k in 0..n {
         if !enter(tally) {
             return false;
         }
         if !enter(tally) {
             return false;
         }
-        k += 1;
     }
     true
 }
@@ -90,11 +88,9 @@ fn read_identities(
     ensures { IdentitiesGiven nodes.now expressions.now full.now identities.now set.old tally.old set.new tally.new m result }
 {
     let mut reading = Reading::Degree(0);
-    let mut k = 0;
-    while k < identities.len() {
+    for k in 0..identities.len() {
         let e = identities[k] as usize;
         reading = identity(nodes, expressions, full, set, tally, m, reading, e);
-        k += 1;
     }
     reading
 }

@@ -78,15 +78,13 @@ pub fn decide_list(
     ensures { decided_says result temporaries.new ≡ list_to (lent record_dims.now cm_2ns.now qs.now dim_x) temporaries.old (records_in list.now) }
 {
     let count = list.len() / STEP_SIZE;
-    let mut k: usize = 0;
-    while k < count {
+    for k in 0..count {
         match decide_step(record_dims, cm_2ns, qs, dim_x, temporaries, list, k) {
             Decided::Refused(w) => {
                 return Decided::Refused(w);
             }
             Decided::Done => {}
         }
-        k += 1;
     }
     Decided::Done
 }
@@ -127,9 +125,7 @@ pub fn write_list(
     ensures { WritesList (lent record_dims.now cm_2ns.now qs.now dim_x) temporaries.old temporaries.new list.old list.new }
 {
     let count = list.len() / STEP_SIZE;
-    let mut k: usize = 0;
-    while k < count {
+    for k in 0..count {
         write_step(record_dims, cm_2ns, qs, dim_x, temporaries, list, k);
-        k += 1;
     }
 }

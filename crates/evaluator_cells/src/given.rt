@@ -41,14 +41,12 @@ pub fn good_values(values: &[u64]) -> bool
         return false;
     }
     let mut at = SECTIONS;
-    let mut k: usize = 0;
-    while k < SECTIONS {
+    for k in 0..SECTIONS {
         let size = values[k] as usize;
         if n - at < size {
             return false;
         }
         at += size;
-        k += 1;
     }
     at == n
 }
@@ -59,10 +57,8 @@ fn section_start(values: &[u64], k: usize) -> usize
     ensures { result ≡ start_of values.now k }
 {
     let mut at = SECTIONS;
-    let mut i: usize = 0;
-    while i < k {
+    for i in 0..k {
         at += values[i] as usize;
-        i += 1;
     }
     at
 }

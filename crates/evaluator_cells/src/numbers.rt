@@ -29,9 +29,7 @@ pub fn fill_numbers(
     requires { FillAsks count m numbers.old }
     ensures { NumbersAre nodes.now literals.now m count numbers.new }
 {
-    let mut n: usize = 0;
-    while n < count {
+    for n in 0..count {
         numbers[n] = residue(literal_of(nodes, literals, n), m);
-        n += 1;
     }
 }

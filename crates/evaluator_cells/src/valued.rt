@@ -49,9 +49,7 @@ pub fn put_all(keys: &[u32; CELL_LIMIT], values: &[u64; CELL_LIMIT], n: usize, o
     requires { KeyedAllAsk keys.now n (length out.old) }
     ensures { out.new ≡ write out.old 0 (keyed_to keys.now values.now n) }
 {
-    let mut j: usize = 0;
-    while j < n {
+    for j in 0..n {
         put_keyed(out, VALUED_SIZE * j, keys[j], values[j]);
-        j += 1;
     }
 }

@@ -113,12 +113,10 @@ pub fn has_rules(list: &[u8], values: &[u64], m: u64) -> bool
 {
     let mut seen = [0u8; SLOTS];
     let count = list.len() / STEP_SIZE;
-    let mut k: usize = 0;
-    while k < count {
+    for k in 0..count {
         if !mark_step(&mut seen, values, m, nth_step(list, k)) {
             return false;
         }
-        k += 1;
     }
     true
 }

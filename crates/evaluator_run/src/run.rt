@@ -25,15 +25,13 @@ pub fn run_list(
 {
     let count = list.len() / STEP_SIZE;
     let mut n: usize = 0;
-    let mut k: usize = 0;
-    while k < count {
+    for k in 0..count {
         let s = nth_step(list, k);
         match run_step(heads, nexts, keys, held, numbers, values, m, n, s) {
             Ran::Cells(after) => n = after,
             Ran::NoRule => return Ran::NoRule,
             Ran::Over => return Ran::Over,
         }
-        k += 1;
     }
     Ran::Cells(n)
 }

@@ -117,8 +117,7 @@ pub fn feed(
     ensures { FedGiven line.old p (tables nodes.old literals.old expressions.old requests.old) more.now result line.new (tables nodes.new literals.new expressions.new requests.new) }
 {
     let mut at = p;
-    let mut i: usize = 0;
-    while i < more.len() {
+    for i in 0..more.len() {
         match feed_byte(more[i], at, line, nodes, literals, expressions, requests) {
             Feeding::Malformed(b) => {
                 return Feeding::Malformed(b);
@@ -130,7 +129,6 @@ pub fn feed(
                 at = q;
             }
         }
-        i += 1;
     }
     Feeding::Fed(at)
 }

@@ -147,10 +147,8 @@ fn fix_list(
     ensures { list.new ≡ rewritten (record_by (reference_in rules.now cms.now plain.now primed.now)) list.old }
 {
     let count = list.len() / STEP_SIZE;
-    let mut k: usize = 0;
-    while k < count {
+    for k in 0..count {
         fix_record(rules, cms, plain, primed, list, STEP_SIZE * k);
-        k += 1;
     }
 }
 

@@ -72,13 +72,11 @@ fn ruled_list(cms: &[u16], list: &[u8]) -> u8
     ensures { result ≡ verdict_no (walked (record_verdict (ruled_reference cms.now)) (records_in list.now)) }
 {
     let count = list.len() / STEP_SIZE;
-    let mut k: usize = 0;
-    while k < count {
+    for k in 0..count {
         let refused = ruled_record(cms, list, STEP_SIZE * k);
         if refused != NONE {
             return refused;
         }
-        k += 1;
     }
     NONE
 }

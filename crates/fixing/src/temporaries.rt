@@ -148,10 +148,8 @@ fn give_list(
 {
     let count = list.len() / STEP_SIZE;
     let mut after = next;
-    let mut k: usize = 0;
-    while k < count {
+    for k in 0..count {
         after = give_record(rules, plain, primed, after, list, STEP_SIZE * k);
-        k += 1;
     }
     after
 }

@@ -39,12 +39,10 @@ fn pair(a: u8, b: u8) -> u8
 fn all_digits(line: &[u8]) -> bool
     ensures { result ≡ all_digits line.now }
 {
-    let mut i: usize = 0;
-    while i < line.len() {
+    for i in 0..line.len() {
         if !is_digit(line[i]) {
             return false;
         }
-        i += 1;
     }
     true
 }
@@ -69,10 +67,8 @@ fn decode(line: &[u8], out: &mut [u8; LONGEST_FRAME])
     ensures { out.new ≡ write out.old 0 (bytes_of line.now) }
 {
     let n = line.len() / 2;
-    let mut i: usize = 0;
-    while i < n {
+    for i in 0..n {
         out[i] = pair(line[2 * i], line[2 * i + 1]);
-        i += 1;
     }
 }
 

@@ -13,14 +13,12 @@ pub fn line_end(text: &[u8], at: usize) -> usize
     requires { at < length text.now }
     ensures { result ≡ end_at text.now at }
 {
-    let mut i = at;
-    while i < text.len() {
+    for i in at..text.len() {
         if text[i] == b'\n' {
             return i;
         }
-        i += 1;
     }
-    i
+    text.len()
 }
 
 // The frame of a line, after those that `c` counts. Where it is refused, no table has changed.

@@ -81,9 +81,7 @@ pub fn fill(
     requires { FillAsked nodes.now expressions.now full.old n m }
     ensures { FillGiven nodes.now expressions.now full.new n m }
 {
-    let mut i = 0;
-    while i < n {
+    for i in 0..n {
         tree_degree(nodes, expressions, full, m, i);
-        i += 1;
     }
 }

@@ -50,11 +50,9 @@ fn print_steps(
     ensures { result ≤ length page.new }
 {
     let mut at = used;
-    let mut k = from;
-    while k < end {
+    for k in from..end {
         let line = make_room(rt, page, at);
         at = put_step(nodes, literals, page, line, k + 1, nth_step(list, k));
-        k += 1;
     }
     at
 }

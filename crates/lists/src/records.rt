@@ -59,12 +59,10 @@ pub fn good_list(list: &[u8]) -> bool
         return false;
     }
     let count = list.len() / STEP_SIZE;
-    let mut k: usize = 0;
-    while k < count {
+    for k in 0..count {
         if !good_record(list, STEP_SIZE * k) {
             return false;
         }
-        k += 1;
     }
     true
 }

@@ -57,8 +57,7 @@ pub fn map_lookups(
 {
     let count = pu_count(plan);
     let mut n = before;
-    let mut i: usize = 0;
-    while i < count {
+    for i in 0..count {
         n = map_lookup(
             plan,
             nodes,
@@ -71,7 +70,6 @@ pub fn map_lookups(
             n,
             i,
         );
-        i += 1;
     }
     n
 }

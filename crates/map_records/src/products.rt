@@ -46,10 +46,8 @@ pub fn map_products(
 {
     let count = product_count(plan);
     let mut n = before;
-    let mut i: usize = 0;
-    while i < count {
+    for i in 0..count {
         n = map_product(plan, sections, dims, cmdims, seen, n, i);
-        i += 1;
     }
     n
 }

@@ -27,11 +27,9 @@ pub fn map_cm1(
     ensures { HeldGiven plan.now sections.old dims.old cmdims.old 0 (fresh plan.now) sections.new dims.new cmdims.new result (λ p. cm1s plan.now p (cm1 plan.now)) }
 {
     let count = cm1_of(plan);
-    let mut i: usize = 0;
-    while i < count {
+    for i in 0..count {
         add_pair(sections, dims, 2 * i, Section::CM1_N, BASE);
         cmdims[i] = BASE;
-        i += 1;
     }
     2 * count
 }
@@ -53,13 +51,11 @@ pub fn map_intermediates(
     let count = im_count(plan);
     let at = im_at(plan);
     let z = cm1_of(plan) + cm2_of(plan);
-    let mut i: usize = 0;
-    while i < count {
+    for i in 0..count {
         let e = number_at(plan, at + PAIR_SIZE * i);
         let d = exp_dim(nodes, expressions, table, cmdims, e);
         add_pair(sections, dims, before + 2 * i, Section::CM3_N, d);
         cmdims[z + i] = d;
-        i += 1;
     }
     before + 2 * count
 }
@@ -77,11 +73,9 @@ pub fn map_quotients(
 {
     let count = q_deg_of(plan);
     let at = cm1_of(plan) + cm2_of(plan) + cm3_of(plan);
-    let mut i: usize = 0;
-    while i < count {
+    for i in 0..count {
         add_pair(sections, dims, before + 2 * i, Section::CM4_N, qdim);
         cmdims[at + i] = qdim;
-        i += 1;
     }
     before + 2 * count
 }

@@ -44,10 +44,8 @@ pub fn put_offsets(offsets: &[u64; OFFSETS], out: &mut [u8]) -> usize
     ensures { Puts out.old 0 (rows_by (offset_row offsets.now) offset_count) out.new result }
 {
     let mut at: usize = 0;
-    let mut s: usize = 0;
-    while s < OFFSETS {
+    for s in 0..OFFSETS {
         at = put_offset(offsets[s], out, at);
-        s += 1;
     }
     at
 }
@@ -58,11 +56,9 @@ pub fn put_numbers(numbers: &[u16], n: usize, out: &mut [u8], from: usize) -> us
     ensures { Puts out.old from (take n numbers.now) out.new result }
 {
     let mut at = from;
-    let mut k: usize = 0;
-    while k < n {
+    for k in 0..n {
         put_u16(out, at, numbers[k]);
         at += NUMBER_SIZE;
-        k += 1;
     }
     at
 }
@@ -80,10 +76,8 @@ pub fn put_records(
     ensures { Puts out.old from (rows_by (record_row sections.now dims.now positions.now) n) out.new result }
 {
     let mut at = from;
-    let mut k: usize = 0;
-    while k < n {
+    for k in 0..n {
         at = put_record(sections[k], dims[k], positions[k], out, at);
-        k += 1;
     }
     at
 }
@@ -100,10 +94,8 @@ pub fn put_columns(
     ensures { Puts out.old from (rows_by (column_row columns.now records.now) n) out.new result }
 {
     let mut at = from;
-    let mut k: usize = 0;
-    while k < n {
+    for k in 0..n {
         at = put_pair(columns[k], records[k], out, at);
-        k += 1;
     }
     at
 }

@@ -31,12 +31,10 @@ fn lookup_columns(plan: &[u8], seen: &mut [u8], columns: &mut [u16; RECORD_LIMIT
 {
     let count = pu_count(plan);
     let mut n: usize = 0;
-    let mut i: usize = 0;
-    while i < count {
+    for i in 0..count {
         let f = HEAD_SIZE + LOOKUP_SIZE * i;
         n = put_column(seen, columns, n, number_at(plan, f));
         n = put_column(seen, columns, n, number_at(plan, f + 1));
-        i += 1;
     }
     n
 }
@@ -53,12 +51,10 @@ fn product_columns(
 {
     let count = product_count(plan);
     let mut n = before;
-    let mut i: usize = 0;
-    while i < count {
+    for i in 0..count {
         let num = product_at(plan, i);
         n = put_column(seen, columns, n, number_at(plan, num));
         n = put_column(seen, columns, n, number_at(plan, num + 1));
-        i += 1;
     }
     n
 }

@@ -42,11 +42,9 @@ fn place_intermediates(
     let count = im_count(plan);
     let at = im_at(plan);
     let place = cm1_of(plan) + cm2_of(plan) + product_count(plan);
-    let mut i: usize = 0;
-    while i < count {
+    for i in 0..count {
         let e = number_at(plan, at + PAIR_SIZE * i);
         exp2pol[e] = cms[place + i];
-        i += 1;
     }
 }
 

@@ -41,10 +41,8 @@ pub fn record_numbers(
     ensures { Listed numbers.old numbers.new result (numbers_in from to 0 (take count sections.now)) }
 {
     let mut n: usize = 0;
-    let mut k: usize = 0;
-    while k < count {
+    for k in 0..count {
         n = put_number(numbers, n, k, sections[k], from, to);
-        k += 1;
     }
     n
 }

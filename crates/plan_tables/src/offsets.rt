@@ -38,12 +38,10 @@ pub fn fill_offsets(
     ensures { offsets.new ≡ offsets_of n_bits n_bits_ext widths.now }
 {
     let mut at: u64 = 0;
-    let mut s: usize = 0;
-    while s < Section::COUNT {
+    for s in 0..Section::COUNT {
         offsets[s] = at;
         let rows = section_rows(n_bits, n_bits_ext, s);
         at += section_size(rows, widths[Section::COUNT + s]);
-        s += 1;
     }
     offsets[Section::COUNT] = at;
 }

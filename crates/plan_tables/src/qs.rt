@@ -13,10 +13,8 @@ pub fn fill_qs(plan: &[u8], numbers: &mut [u16; NUMBER_LIMIT]) -> usize
 {
     let count = qs_count(plan);
     let at = qs_at(plan);
-    let mut i: usize = 0;
-    while i < count {
+    for i in 0..count {
         numbers[i] = number_at(plan, at + i) as u16;
-        i += 1;
     }
     count
 }

@@ -45,12 +45,10 @@ fn fill_intermediates(plan: &[u8], rules: &mut [u64; EXPRESSION_LIMIT])
 {
     let count = im_count(plan);
     let at = im_at(plan);
-    let mut i: usize = 0;
-    while i < count {
+    for i in 0..count {
         let e = number_at(plan, at + PAIR_SIZE * i);
         let cm = number_at(plan, at + PAIR_SIZE * i + 1);
         rules[e] = pack(Kind::CM, cm, 0);
-        i += 1;
     }
 }
 

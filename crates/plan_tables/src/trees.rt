@@ -45,10 +45,8 @@ pub fn fill_trees(
     ensures { Listed trees.old trees.new result (trees_in (take count sections.now) (take count dims.now) (take count positions.now)) }
 {
     let mut n: usize = 0;
-    let mut k: usize = 0;
-    while k < count {
+    for k in 0..count {
         n = put_tree(trees, n, sections[k], positions[k], dims[k]);
-        k += 1;
     }
     n
 }

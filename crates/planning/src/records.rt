@@ -9,12 +9,10 @@ pub fn some_none(dims: &[u16; RECORD_LIMIT], n: usize) -> bool
     requires { (length dims.now ≡ record_limit) × (n ≤ record_limit) }
     ensures { result ≡ some_none (take n dims.now) }
 {
-    let mut i: usize = 0;
-    while i < n {
+    for i in 0..n {
         if dims[i] == 0 {
             return true;
         }
-        i += 1;
     }
     false
 }

@@ -53,11 +53,9 @@ pub fn mark_intermediates(plan: &[u8], seen: &mut [u8])
 {
     let n = im_count(plan);
     let at = im_at(plan);
-    let mut i: usize = 0;
-    while i < n {
+    for i in 0..n {
         let e = number_at(plan, at + PAIR_SIZE * i);
         seen[e] = SEEN;
-        i += 1;
     }
 }
 
@@ -80,12 +78,10 @@ fn count_lookups(plan: &[u8], seen: &mut [u8]) -> usize
 {
     let n = pu_count(plan);
     let mut count: usize = 0;
-    let mut i: usize = 0;
-    while i < n {
+    for i in 0..n {
         let f = HEAD_SIZE + LOOKUP_SIZE * i;
         count += ask(seen, number_at(plan, f));
         count += ask(seen, number_at(plan, f + 1));
-        i += 1;
     }
     count
 }
@@ -97,12 +93,10 @@ fn count_products(plan: &[u8], seen: &mut [u8], before: usize) -> usize
 {
     let n = product_count(plan);
     let mut count = before;
-    let mut i: usize = 0;
-    while i < n {
+    for i in 0..n {
         let num = product_at(plan, i);
         count += ask(seen, number_at(plan, num));
         count += ask(seen, number_at(plan, num + 1));
-        i += 1;
     }
     count
 }

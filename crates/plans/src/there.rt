@@ -17,8 +17,7 @@ fn lookups_there(plan: &[u8], m: usize) -> bool
     ensures { result ≡ every (lookup_there plan.now m) (pu_count plan.now) }
 {
     let n = pu_count(plan);
-    let mut i: usize = 0;
-    while i < n {
+    for i in 0..n {
         let f = HEAD_SIZE + LOOKUP_SIZE * i;
         if m <= number_at(plan, f) {
             return false;
@@ -26,7 +25,6 @@ fn lookups_there(plan: &[u8], m: usize) -> bool
         if m <= number_at(plan, f + 1) {
             return false;
         }
-        i += 1;
     }
     true
 }
@@ -36,8 +34,7 @@ fn products_there(plan: &[u8], m: usize) -> bool
     ensures { result ≡ every (product_there plan.now m) (product_count plan.now) }
 {
     let n = product_count(plan);
-    let mut i: usize = 0;
-    while i < n {
+    for i in 0..n {
         let num = product_at(plan, i);
         if m <= number_at(plan, num) {
             return false;
@@ -45,7 +42,6 @@ fn products_there(plan: &[u8], m: usize) -> bool
         if m <= number_at(plan, num + 1) {
             return false;
         }
-        i += 1;
     }
     true
 }
@@ -56,12 +52,10 @@ fn intermediates_there(plan: &[u8], m: usize) -> bool
 {
     let n = im_count(plan);
     let at = im_at(plan);
-    let mut i: usize = 0;
-    while i < n {
+    for i in 0..n {
         if m <= number_at(plan, at + PAIR_SIZE * i) {
             return false;
         }
-        i += 1;
     }
     true
 }
@@ -72,12 +66,10 @@ fn q2exp_there(plan: &[u8], m: usize) -> bool
 {
     let n = q2exp_count(plan);
     let at = q2exp_at(plan);
-    let mut i: usize = 0;
-    while i < n {
+    for i in 0..n {
         if m <= number_at(plan, at + i) {
             return false;
         }
-        i += 1;
     }
     true
 }
@@ -117,12 +109,10 @@ pub fn leaves_there(nodes: &[u64; NODE_WORDS], n: usize, cms: usize, qs: usize) 
     requires { n ≤ node_limit }
     ensures { result ≡ leaves_there nodes.now n cms qs }
 {
-    let mut i: usize = 0;
-    while i < n {
+    for i in 0..n {
         if !leaf_there(cms, qs, kind_at(nodes, i), id(nodes, i)) {
             return false;
         }
-        i += 1;
     }
     true
 }

@@ -103,12 +103,10 @@ fn first_reached(marks: &[u8; EXPRESSION_LIMIT], m: usize) -> Found
     requires { m ≤ expression_limit }
     ensures { found_at result ≡ first (reached_in marks.now) m }
 {
-    let mut e = 0;
-    while e < m {
+    for e in 0..m {
         if marks[e] == REACHED {
             return Found::At(e);
         }
-        e += 1;
     }
     Found::Nothing
 }
@@ -155,10 +153,8 @@ pub fn first_on_cycle(
     ensures { CycleGiven nodes.now expressions.now (entries_in table.now) m result }
 {
     let mut least = NODE_LIMIT;
-    let mut e = 0;
-    while e < m {
+    for e in 0..m {
         least = least_back(nodes, expressions, table, m, e, least);
-        e += 1;
     }
     least
 }

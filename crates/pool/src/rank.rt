@@ -109,8 +109,7 @@ pub fn rank_all(
 {
     let mut ranks = [0u64; EXPRESSION_LIMIT];
     let mut done: usize = 0;
-    let mut e: usize = 0;
-    while e < m {
+    for e in 0..m {
         done = visit(nodes, expressions, table, &mut ranks, done, e);
         if done == CYCLE {
             return Ranking {
@@ -118,7 +117,6 @@ pub fn rank_all(
                 ranks: [0u64; EXPRESSION_LIMIT],
             };
         }
-        e += 1;
     }
     Ranking {
         cyclic: false,

@@ -105,12 +105,10 @@ pub fn first_offender(
     requires { n ≤ node_limit }
     ensures { found_at result ≡ first (offends_in rule nodes.now uses.now expressions) n }
 {
-    let mut i = 0;
-    while i < n {
+    for i in 0..n {
         if offends(rule, nodes, uses, expressions, i) {
             return Found::At(i);
         }
-        i += 1;
     }
     Found::Nothing
 }
@@ -120,12 +118,10 @@ pub fn first_lost_root(expressions: &[u64; EXPRESSION_LIMIT], n: usize, m: usize
     requires { m ≤ expression_limit }
     ensures { found_at result ≡ first (lost_root_in expressions.now n) m }
 {
-    let mut e = 0;
-    while e < m {
+    for e in 0..m {
         if n <= root(expressions, e) {
             return Found::At(e);
         }
-        e += 1;
     }
     Found::Nothing
 }

@@ -45,10 +45,8 @@ pub fn tally_nodes(nodes: &[u64; NODE_WORDS], uses: &mut [u8; NODE_LIMIT], n: us
     requires { n ≤ node_limit }
     ensures { Tallies uses.old uses.new (child_uses_in nodes.now n) }
 {
-    let mut i = 0;
-    while i < n {
+    for i in 0..n {
         tally_children(nodes, uses, i);
-        i += 1;
     }
 }
 
@@ -56,9 +54,7 @@ pub fn tally_roots(expressions: &[u64; EXPRESSION_LIMIT], uses: &mut [u8; NODE_L
     requires { m ≤ expression_limit }
     ensures { Tallies uses.old uses.new (root_uses_in expressions.now m) }
 {
-    let mut e = 0;
-    while e < m {
+    for e in 0..m {
         tally(uses, root(expressions, e));
-        e += 1;
     }
 }

@@ -27,10 +27,8 @@ fn nodes_size(nodes: &[u64; NODE_WORDS], literals: &[u64; NODE_LIMIT], n: usize)
     ensures { result ≡ length (nodes_bytes nodes.now literals.now n) }
 {
     let mut size: usize = 0;
-    let mut k: usize = 0;
-    while k < n {
+    for k in 0..n {
         size += LENGTH_SIZE + node_size(node_at(nodes, literals, k));
-        k += 1;
     }
     size
 }
@@ -45,10 +43,8 @@ fn put_nodes(
     ensures { Puts out.old 0 (nodes_bytes nodes.now literals.now n) out.new result }
 {
     let mut at: usize = 0;
-    let mut k: usize = 0;
-    while k < n {
+    for k in 0..n {
         at = put_node(out, at, node_at(nodes, literals, k));
-        k += 1;
     }
     at
 }
@@ -63,10 +59,8 @@ fn put_expressions(
     ensures { Puts out.old from (expressions_bytes expressions.now m) out.new result }
 {
     let mut at = from;
-    let mut k: usize = 0;
-    while k < m {
+    for k in 0..m {
         at = put_expression(out, at, expression_at(expressions, k));
-        k += 1;
     }
     at
 }

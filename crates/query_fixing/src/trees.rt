@@ -94,13 +94,11 @@ fn treed_list(trees: &[u64], list: &[u8]) -> u8
     ensures { result ≡ verdict_no (walked (record_verdict (treed_reference trees.now)) (records_in list.now)) }
 {
     let count = list.len() / STEP_SIZE;
-    let mut k: usize = 0;
-    while k < count {
+    for k in 0..count {
         let refused = treed_record(trees, list, STEP_SIZE * k);
         if refused != NONE {
             return refused;
         }
-        k += 1;
     }
     NONE
 }
@@ -173,9 +171,7 @@ pub fn tree_list(trees: &[u64], list: &mut [u8])
     ensures { list.new ≡ rewritten (record_by (tree_reference trees.now)) list.old }
 {
     let count = list.len() / STEP_SIZE;
-    let mut k: usize = 0;
-    while k < count {
+    for k in 0..count {
         put_trees(trees, list, STEP_SIZE * k);
-        k += 1;
     }
 }

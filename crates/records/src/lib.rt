@@ -128,10 +128,8 @@ pub fn enonkasse_map_section(
 {
     let upto = read_count(rs.len());
     let mut bad = 0u8;
-    let mut k: usize = 0;
-    while k < upto {
+    for k in 0..upto {
         bad = unknown_after(bad, rs[k].section);
-        k += 1;
     }
     let n = accepted(
         bad,
@@ -141,19 +139,15 @@ pub fn enonkasse_map_section(
         positions.len(),
         widths.len(),
     );
-    let mut i: usize = 0;
-    while i < n {
+    for i in 0..n {
         let r = rs[i];
         sections[i] = r.section;
         dims[i] = r.dim;
         positions[i] = r.section_pos;
-        i += 1;
     }
     let no = map_columns(bad, rs.len(), sections, dims, positions, widths);
-    let mut j: usize = 0;
-    while j < n {
+    for j in 0..n {
         rs[j].section_pos = positions[j];
-        j += 1;
     }
     no
 }

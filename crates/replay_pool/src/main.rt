@@ -83,11 +83,9 @@ fn main(rt: HostRuntime) {
     let mut head = [0u8; 4];
     let mut name = [0u8; NAME_ROOM];
     let mut input = [0u8; POOL_ROOM];
-    let mut turn: u32 = 0;
-    while turn < ENTRIES {
+    for turn in 0..ENTRIES {
         if !entry(&rt, &mut from, &mut head, &mut name, &mut input) {
             return;
         }
-        turn += 1;
     }
 }

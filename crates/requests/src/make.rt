@@ -67,10 +67,8 @@ pub fn size_all(
     ensures { SizeGiven nodes.now expressions.now jobs.now n result }
 {
     let mut steps: usize = 0;
-    let mut k: usize = 0;
-    while k < n {
+    for k in 0..n {
         steps += size_one(nodes, expressions, jobs[k]);
-        k += 1;
     }
     steps
 }
@@ -89,12 +87,10 @@ pub fn make_counted(
     requires { MakeAsked nodes.now expressions.now jobs.now n at t (length list.old) }
     ensures { MakeCounted nodes.now expressions.now jobs.now n at t list.old list.new result }
 {
-    let mut k: usize = 0;
-    while k < n {
+    for k in 0..n {
         let steps = make_one(nodes, expressions, list, jobs[k], at, t);
         at += steps;
         t += steps - 1;
-        k += 1;
     }
     at
 }

@@ -21,11 +21,9 @@ pub fn place_all(
     requires { PlaceAsked nodes.now expressions.now jobs.now words.old n from }
     ensures { PlaceGiven nodes.now expressions.now jobs.now words.old words.new n from }
 {
-    let mut k: usize = 0;
-    while k < n {
+    for k in 0..n {
         let job = jobs[k];
         let steps = size_one(nodes, expressions, job);
         words[from + k] = job / 2 + CELLS * (steps as u64);
-        k += 1;
     }
 }

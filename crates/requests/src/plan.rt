@@ -55,8 +55,7 @@ pub fn plan_all(
     ensures { PlanGiven nodes.now expressions.now requests.now marks.old marks.new jobs.old jobs.new m count result }
 {
     let mut n: usize = 0;
-    let mut k: usize = 0;
-    while k < count {
+    for k in 0..count {
         match plan_request(nodes, expressions, requests, marks, jobs, m, n, k) {
             Plan::Jobs(after) => {
                 n = after;
@@ -68,7 +67,6 @@ pub fn plan_all(
                 return Plan::DoublePrime(i);
             }
         }
-        k += 1;
     }
     Plan::Jobs(n)
 }

@@ -44,10 +44,8 @@ pub fn tally(sections: &[u16], dims: &[u16], groups: &mut [u16; GROUPS])
     requires { (Records sections.now dims.now) × (groups.old ≡ replicate group_count 0) }
     ensures { Tallied sections.now dims.now (length dims.now) groups.new }
 {
-    let mut i: usize = 0;
-    while i < dims.len() {
+    for i in 0..dims.len() {
         add_record(groups, sections[i], dims[i]);
-        i += 1;
     }
 }
 
@@ -70,14 +68,12 @@ pub fn place(sections: &[u16], dims: &[u16], all: &[u16; GROUPS], positions: &mu
     ensures { positions.new ≡ positions_from sections.now dims.now positions.old }
 {
     let mut gone = [0u16; GROUPS];
-    let mut i: usize = 0;
-    while i < dims.len() {
+    for i in 0..dims.len() {
         let section = sections[i];
         let dim = dims[i];
         let old = positions[i];
         positions[i] = next_position(all, &gone, section, dim, old);
         add_record(&mut gone, section, dim);
-        i += 1;
     }
 }
 
@@ -100,9 +96,7 @@ pub fn put_widths(groups: &[u16; GROUPS], which: usize, widths: &mut [u16], at: 
     requires { (Small groups.now) × (at + section_count ≤ length widths.old) }
     ensures { widths.new ≡ write widths.old at (each (width_in groups.now which) section_count) }
 {
-    let mut s: usize = 0;
-    while s < Section::COUNT {
+    for s in 0..Section::COUNT {
         widths[at + s] = width(groups, which, s as u16);
-        s += 1;
     }
 }

@@ -24,12 +24,10 @@ fn known_sections(sections: &[u16], count: usize) -> bool
     requires { count ≤ length sections.now }
     ensures { result ≡ known (take count sections.now) }
 {
-    let mut k: usize = 0;
-    while k < count {
+    for k in 0..count {
         if Section::COUNT <= sections[k] as usize {
             return false;
         }
-        k += 1;
     }
     true
 }

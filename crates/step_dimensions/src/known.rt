@@ -73,15 +73,13 @@ fn sources_dim(
 {
     let sources = needed as usize;
     let mut most: u16 = 0;
-    let mut place: usize = 0;
-    while place < sources {
+    for place in 0..sources {
         let source = at + S0 + REFERENCE_SIZE * place;
         let dim = known_dim(record_dims, cm_2ns, qs, dim_x, temporaries, list, source);
         if dim == 0 {
             return 0;
         }
         most = larger(most, dim);
-        place += 1;
     }
     most
 }

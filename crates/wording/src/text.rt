@@ -12,12 +12,10 @@ pub fn put_text(page: &mut [u8], used: usize, text: &[u8]) -> usize
     if page.len() - used < text.len() {
         return used;
     }
-    let mut i: usize = 0;
-    while i < text.len() {
+    for i in 0..text.len() {
         page[used + i] = text[i];
-        i += 1;
     }
-    used + i
+    used + text.len()
 }
 
 pub fn put_decimal(page: &mut [u8], used: usize, x: u64) -> usize

@@ -19,9 +19,6 @@ nth_step-requires c = omega (arith, c.loop-i-test.true, c.requires.there)
 pub put_nth_step-requires : goal.put_nth_step-requires
 put_nth_step-requires c = omega (arith, c.loop-i-test.true, c.requires.fits, c.loop-i.invariant.size)
 
-pub overflow_add-i : goal.overflow_add-i
-overflow_add-i c = omega (arith, c.loop-i-test.true)
-
 pub loop-i-smaller : goal.loop-i-smaller
 loop-i-smaller c = omega (arith, c.loop-i-test.true)
 

@@ -28,9 +28,6 @@ overflow_add-from c = omega (arith, source-small c.loop-k.invariant c.loop-k-tes
 pub overflow_add-to : goal.overflow_add-to
 overflow_add-to c = omega (arith, place-small c.loop-k.invariant c.loop-k-test.true c.taken-count.ensures, c.requires.blocks.steps)
 
-pub overflow_add-k : goal.overflow_add-k
-overflow_add-k c = omega (arith, c.loop-k-test.true, c.requires.blocks.few)
-
 pub loop-k-smaller : goal.loop-k-smaller
 loop-k-smaller c = omega (arith, c.loop-k-test.true)
 

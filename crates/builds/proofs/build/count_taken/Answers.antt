@@ -13,9 +13,6 @@ taken-steps-requires c = record { expressions = c.requires.expressions; there = 
 pub overflow_add-steps : goal.overflow_add-steps
 overflow_add-steps c = omega (arith, one-fits _ _ c.requires.steps c.loop-k.invariant c.loop-k-test.true c.taken-steps.ensures)
 
-pub overflow_add-k : goal.overflow_add-k
-overflow_add-k c = omega (arith, c.loop-k-test.true, c.requires.few)
-
 pub loop-k-smaller : goal.loop-k-smaller
 loop-k-smaller c = omega (arith, c.loop-k-test.true)
 

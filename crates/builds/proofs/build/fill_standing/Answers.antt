@@ -16,9 +16,6 @@ bounds-blocks-k c = omega (arith, c.loop-k-test.true, c.requires)
 pub bounds-standing-cell : goal.bounds-standing-cell
 bounds-standing-cell c = omega (arith, c.cell_of-cell.ensures)
 
-pub overflow_add-k : goal.overflow_add-k
-overflow_add-k c = omega (arith, c.loop-k-test.true, c.requires)
-
 pub loop-k-smaller : goal.loop-k-smaller
 loop-k-smaller c = omega (arith, c.loop-k-test.true)
 

@@ -10,9 +10,6 @@ loop-e-init c = none_freed _ _ _
 pub release_one-requires : goal.release_one-requires
 release_one-requires c = omega (arith, c.loop-e-test.true, c.requires)
 
-pub overflow_add-e : goal.overflow_add-e
-overflow_add-e c = omega (arith, c.loop-e-test.true, c.requires)
-
 pub loop-e-smaller : goal.loop-e-smaller
 loop-e-smaller c = omega (arith, c.loop-e-test.true)
 

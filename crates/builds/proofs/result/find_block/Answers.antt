@@ -19,9 +19,6 @@ cell_of-requires c = tt
 pub returns-then-cell_of-cell : goal.returns-then-cell_of-cell
 returns-then-cell_of-cell c = found_here c.loop-k.invariant c.loop-k-test.true c.cell_of.ensures c.if-cell_of-cell.true
 
-pub overflow_add-k : goal.overflow_add-k
-overflow_add-k c = omega (arith, c.loop-k-test.true, c.requires)
-
 pub loop-k-smaller : goal.loop-k-smaller
 loop-k-smaller c = omega (arith, c.loop-k-test.true)
 

@@ -19,9 +19,6 @@ steps_of-steps-requires c = tt
 pub overflow_add-steps : goal.overflow_add-steps
 overflow_add-steps c = omega (arith, passed-small c.loop-k.invariant c.loop-k-test.true c.steps_of-steps.ensures, c.requires.steps)
 
-pub overflow_add-k : goal.overflow_add-k
-overflow_add-k c = omega (arith, c.loop-k-test.true, c.requires.few)
-
 pub loop-k-smaller : goal.loop-k-smaller
 loop-k-smaller c = omega (arith, c.loop-k-test.true)
 

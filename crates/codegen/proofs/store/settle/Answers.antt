@@ -16,9 +16,6 @@ mark_byte-requires c = tt
 pub bounds-marks-c-in-loop-c : goal.bounds-marks-c-in-loop-c
 bounds-marks-c-in-loop-c c = omega (arith, c.loop-c-test.true)
 
-pub overflow_add-c : goal.overflow_add-c
-overflow_add-c c = omega (arith, c.loop-c-test.true)
-
 pub loop-c-smaller : goal.loop-c-smaller
 loop-c-smaller c = omega (arith, c.loop-c-test.true)
 

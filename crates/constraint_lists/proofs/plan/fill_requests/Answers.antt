@@ -19,9 +19,6 @@ overflow_cast-request c = omega (arith, c.requires.small _ c.loop-k-test.true)
 pub put_request-requires : goal.put_request-requires
 put_request-requires c = omega (arith, c.loop-k-test.true, c.requires.few)
 
-pub overflow_add-k : goal.overflow_add-k
-overflow_add-k c = omega (arith, c.loop-k-test.true, c.requires.few)
-
 pub loop-k-smaller : goal.loop-k-smaller
 loop-k-smaller c = omega (arith, c.loop-k-test.true, c.requires.few)
 

@@ -20,9 +20,6 @@ bounds-members-k c = omega (arith, c.loop-k-test.true)
 pub returns-then-m-members : goal.returns-then-m-members
 returns-then-m-members c = one-past _ _ _ c.loop-k.invariant.1 c.loop-k-test.true c.if-m-members.true
 
-pub overflow_add-k : goal.overflow_add-k
-overflow_add-k c = omega (arith, c.loop-k-test.true)
-
 pub loop-k-smaller : goal.loop-k-smaller
 loop-k-smaller c = omega (arith, c.loop-k-test.true)
 

@@ -20,9 +20,6 @@ bounds-members-k c = omega (arith, c.loop-k-test.true)
 pub mark_one-requires : goal.mark_one-requires
 mark_one-requires c = c.requires _ c.loop-k-test.true
 
-pub overflow_add-k : goal.overflow_add-k
-overflow_add-k c = omega (arith, c.loop-k-test.true)
-
 pub loop-k-smaller : goal.loop-k-smaller
 loop-k-smaller c = omega (arith, c.loop-k-test.true)
 

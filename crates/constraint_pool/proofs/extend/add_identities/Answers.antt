@@ -19,9 +19,6 @@ overflow_cast-others c = omega (arith, c.requires.small _ c.loop-k-test.true)
 pub add_identity-next-requires : goal.add_identity-next-requires
 add_identity-next-requires c = identity-asks _ _ _ _ c.loop-k.invariant.1 c.loop-k-test.true c.requires
 
-pub overflow_add-k : goal.overflow_add-k
-overflow_add-k c = omega (arith, c.loop-k-test.true, c.requires.room)
-
 pub loop-k-smaller : goal.loop-k-smaller
 loop-k-smaller c = omega (arith, c.loop-k-test.true, c.requires.room)
 

@@ -25,9 +25,6 @@ overflow_cast-cm c = omega (arith, c.loop-k-test.true, c.requires.2.columns)
 pub add_member-next-requires : goal.add_member-next-requires
 add_member-next-requires c = let P = c.requires in (_, P.0, P.1, member-asks P.2 (c.loop-k.invariant.1 P.0 P.1 P.2) c.loop-k-test.true c.root-body.ensures)
 
-pub overflow_add-k : goal.overflow_add-k
-overflow_add-k c = omega (arith, c.loop-k-test.true, c.requires.2.columns)
-
 pub loop-k-smaller : goal.loop-k-smaller
 loop-k-smaller c = omega (arith, c.loop-k-test.true, c.requires.2.columns)
 

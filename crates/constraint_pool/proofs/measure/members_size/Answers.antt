@@ -25,9 +25,6 @@ overflow_add-size c = let P = c.requires in omega (arith, c.loop-k-test.true, ca
 pub overflow_add-size-in-loop-k : goal.overflow_add-size-in-loop-k
 overflow_add-size-in-loop-k c = let P = c.requires in omega (arith, c.loop-k-test.true, capped_small _ _ (c.loop-k.invariant.1 P.0 P.1 P.2 P.3), capped_small _ _ (c.tree_size.ensures P.0 _ P.1 P.2 (body-asks P.3 c.loop-k-test.true c.root-body.ensures)))
 
-pub overflow_add-k : goal.overflow_add-k
-overflow_add-k c = omega (arith, c.loop-k-test.true)
-
 pub loop-k-smaller : goal.loop-k-smaller
 loop-k-smaller c = omega (arith, c.loop-k-test.true)
 

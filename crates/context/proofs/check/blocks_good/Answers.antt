@@ -19,9 +19,6 @@ block_good-requires c = omega (arith, c.requires)
 pub returns-then-not-block_good : goal.returns-then-not-block_good
 returns-then-not-block_good c = one-fails _ _ _ _ (omega arith) c.block_good.ensures (ap not c.if-not-block_good.true)
 
-pub overflow_add-k : goal.overflow_add-k
-overflow_add-k c = omega (arith, c.requires)
-
 pub loop-k-smaller : goal.loop-k-smaller
 loop-k-smaller c = omega (arith, c.requires)
 

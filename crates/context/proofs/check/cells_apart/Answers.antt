@@ -27,9 +27,6 @@ returns-then-seen-cell-eq-MARKED c = seen_twice _ _ _ _ _ _ c.loop-k.invariant.2
 pub bounds-seen-cell-in-loop-k : goal.bounds-seen-cell-in-loop-k
 bounds-seen-cell-in-loop-k c = let e = c.cell_of-cell.ensures ∙ ap entry_cell c.entry_at.ensures in omega (arith, c.requires.cell c.loop-k.k (omega arith), c.loop-k.invariant.2.full)
 
-pub overflow_add-k : goal.overflow_add-k
-overflow_add-k c = omega (arith, c.requires)
-
 pub loop-k-smaller : goal.loop-k-smaller
 loop-k-smaller c = omega (arith, c.requires)
 

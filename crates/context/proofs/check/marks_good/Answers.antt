@@ -10,9 +10,6 @@ use Rattle.context.proofs.check.marks_good.Goals as goal
 pub loop-cell-init : goal.loop-cell-init
 loop-cell-init c = (omega arith, below_none _)
 
-pub overflow_add-cell : goal.overflow_add-cell
-overflow_add-cell c = omega (arith, c.requires)
-
 pub bounds-context-cell : goal.bounds-context-cell
 bounds-context-cell c = omega (arith, c.requires)
 
@@ -21,9 +18,6 @@ mark_good-requires c = omega (arith, c.requires)
 
 pub returns-then-not-mark_good : goal.returns-then-not-mark_good
 returns-then-not-mark_good c = one-fails _ _ _ _ c.loop-cell-test.true c.mark_good.ensures (ap not c.if-not-mark_good.true)
-
-pub overflow_add-cell-in-loop-cell : goal.overflow_add-cell-in-loop-cell
-overflow_add-cell-in-loop-cell c = omega (arith, c.requires)
 
 pub loop-cell-smaller : goal.loop-cell-smaller
 loop-cell-smaller c = omega (arith, c.requires)

@@ -19,9 +19,6 @@ overflow_cast-steps c = omega (arith, c.requires)
 pub overflow_add-steps : goal.overflow_add-steps
 overflow_add-steps c = omega (arith, c.requires)
 
-pub overflow_add-k : goal.overflow_add-k
-overflow_add-k c = omega (arith, c.requires)
-
 pub loop-k-smaller : goal.loop-k-smaller
 loop-k-smaller c = omega (arith, c.requires)
 

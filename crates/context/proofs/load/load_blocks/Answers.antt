@@ -24,9 +24,6 @@ offset_bounds-blocks-k c = omega (arith, c.requires)
 pub bounds-blocks-k : goal.bounds-blocks-k
 bounds-blocks-k c = omega (arith, c.requires)
 
-pub overflow_add-k : goal.overflow_add-k
-overflow_add-k c = omega (arith, c.requires)
-
 pub loop-k-smaller : goal.loop-k-smaller
 loop-k-smaller c = omega (arith, c.requires)
 

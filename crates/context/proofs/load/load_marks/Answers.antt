@@ -16,9 +16,6 @@ bounds-context-cell c = omega (arith, c.requires)
 pub bounds-marks-cell : goal.bounds-marks-cell
 bounds-marks-cell c = omega (arith, c.requires)
 
-pub overflow_add-cell : goal.overflow_add-cell
-overflow_add-cell c = omega (arith, c.requires)
-
 pub loop-cell-smaller : goal.loop-cell-smaller
 loop-cell-smaller c = omega (arith, c.requires)
 

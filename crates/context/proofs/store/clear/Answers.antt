@@ -12,9 +12,6 @@ loop-i-init c = (omega arith, refl, refl)
 pub bounds-context-i : goal.bounds-context-i
 bounds-context-i c = omega arith
 
-pub overflow_add-i : goal.overflow_add-i
-overflow_add-i c = omega arith
-
 pub loop-i-smaller : goal.loop-i-smaller
 loop-i-smaller c = omega arith
 

@@ -19,9 +19,6 @@ entry_of-requires c = c.requires.steps16 _ c.loop-k.invariant.ahead c.loop-k-tes
 pub put_entry-requires : goal.put_entry-requires
 put_entry-requires c = omega (arith, c.requires, c.loop-k.invariant.inside)
 
-pub overflow_add-k : goal.overflow_add-k
-overflow_add-k c = omega (arith, c.requires, c.loop-k.invariant.inside)
-
 pub loop-k-smaller : goal.loop-k-smaller
 loop-k-smaller c = omega (arith, c.requires, c.loop-k.invariant.inside)
 

@@ -18,9 +18,6 @@ overflow_add-context c = omega (arith, c.requires)
 pub bounds-context-cell : goal.bounds-context-cell
 bounds-context-cell c = omega (arith, c.requires)
 
-pub overflow_add-cell : goal.overflow_add-cell
-overflow_add-cell c = omega (arith, c.requires)
-
 pub loop-cell-smaller : goal.loop-cell-smaller
 loop-cell-smaller c = omega (arith, c.requires)
 

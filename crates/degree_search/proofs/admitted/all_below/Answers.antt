@@ -9,9 +9,6 @@ loop-k-init c = (omega arith, λ k h. absurd (omega arith))
 pub returns-then-m-identities : goal.returns-then-m-identities
 returns-then-m-identities c = below-some c.args.m c.args.identities.now _ c.loop-k-test.true c.if-m-identities.true
 
-pub overflow_add-k : goal.overflow_add-k
-overflow_add-k c = omega (arith, c.loop-k-test.true, c.well_formed)
-
 pub loop-k-smaller : goal.loop-k-smaller
 loop-k-smaller c = omega (arith, c.loop-k-test.true)
 

@@ -10,9 +10,6 @@ loop-k-init c = λ l n rank a. reading-first a
 pub identity-reading-requires : goal.identity-reading-requires
 identity-reading-requires c = let P = c.requires in (P.0, P.1, P.2, next-asks P.3 (c.loop-k.invariant P.0 P.1 P.2 P.3) c.loop-k-test.true refl)
 
-pub overflow_add-k : goal.overflow_add-k
-overflow_add-k c = omega (arith, c.loop-k-test.true, c.well_formed)
-
 pub loop-k-smaller : goal.loop-k-smaller
 loop-k-smaller c = omega (arith, c.loop-k-test.true)
 

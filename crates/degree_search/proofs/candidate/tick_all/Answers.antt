@@ -18,9 +18,6 @@ enter-requires-in-loop-k c = c.enter.ensures.held.whole
 pub returns-then-not-enter-2 : goal.returns-then-not-enter-2
 returns-then-not-enter-2 c = second-over c.loop-k.invariant.1 c.loop-k-test.true c.enter.ensures c.if-not-enter.false c.enter-in-loop-k.ensures c.if-not-enter-2.true
 
-pub overflow_add-k : goal.overflow_add-k
-overflow_add-k c = omega (arith, c.loop-k-test.true)
-
 pub loop-k-smaller : goal.loop-k-smaller
 loop-k-smaller c = omega (arith, c.loop-k-test.true)
 

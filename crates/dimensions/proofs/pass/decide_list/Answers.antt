@@ -15,9 +15,6 @@ decide_step-requires c = record_in c.args.list.now c.loop-k.k c.loop-k-test.true
 pub returns-in-Refused : goal.returns-in-Refused
 returns-in-Refused c = decide-stop _ _ _ _ _ c.loop-k.invariant.1 _ refl c.decide_step.result _ c.decide_step.ensures _ c.in-Refused.is c.loop-k-test.true
 
-pub overflow_add-k : goal.overflow_add-k
-overflow_add-k c = omega (arith, c.loop-k-test.true, c.well_formed)
-
 pub loop-k-smaller : goal.loop-k-smaller
 loop-k-smaller c = omega (arith, c.loop-k-test.true)
 

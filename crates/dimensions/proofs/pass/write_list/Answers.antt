@@ -11,9 +11,6 @@ loop-k-init c = (omega arith, refl, write-begin _ _ _)
 pub write_step-requires : goal.write_step-requires
 write_step-requires c = record-still c.args.list.now c.loop-k.list c.loop-k.k c.loop-k.invariant.1 c.loop-k-test.true
 
-pub overflow_add-k : goal.overflow_add-k
-overflow_add-k c = omega (arith, c.loop-k-test.true, c.well_formed)
-
 pub loop-k-smaller : goal.loop-k-smaller
 loop-k-smaller c = omega (arith, c.loop-k-test.true)
 

@@ -25,9 +25,6 @@ returns-then-n-at c = past-bad _ _ _ c.loop-k-test.true c.if-n-lt-SECTIONS.false
 pub overflow_add-at : goal.overflow_add-at
 overflow_add-at c = omega arith
 
-pub overflow_add-k : goal.overflow_add-k
-overflow_add-k c = omega arith
-
 pub loop-k-smaller : goal.loop-k-smaller
 loop-k-smaller c = omega arith
 

@@ -16,9 +16,6 @@ bounds-values-i c = omega (arith, header_there _ c.requires.good, c.loop-i-test.
 pub overflow_add-at : goal.overflow_add-at
 overflow_add-at c = omega (arith, section-there _ c.requires.good c.loop-i.i (omega (arith, c.loop-i-test.true, c.requires.in_header)), c.loop-i.invariant.1, c.well_formed)
 
-pub overflow_add-i : goal.overflow_add-i
-overflow_add-i c = omega arith
-
 pub loop-i-smaller : goal.loop-i-smaller
 loop-i-smaller c = omega arith
 

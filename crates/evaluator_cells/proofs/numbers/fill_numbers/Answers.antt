@@ -19,9 +19,6 @@ offset_bounds-numbers-n c = omega (arith, c.loop-n-test.true, c.requires.few)
 pub bounds-numbers-n : goal.bounds-numbers-n
 bounds-numbers-n c = omega (arith, c.loop-n-test.true, c.requires.few)
 
-pub overflow_add-n : goal.overflow_add-n
-overflow_add-n c = omega (arith, c.loop-n-test.true, c.requires.few)
-
 pub loop-n-smaller : goal.loop-n-smaller
 loop-n-smaller c = omega (arith, c.loop-n-test.true, c.requires.few)
 

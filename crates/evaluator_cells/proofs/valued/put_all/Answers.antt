@@ -26,9 +26,6 @@ bounds-values-j c = omega (arith, c.requires.few, c.loop-j-test.true)
 pub put_keyed-requires : goal.put_keyed-requires
 put_keyed-requires c = record { fits = omega (arith, c.requires.fits, c.loop-j-test.true, c.loop-j.invariant.1); small = c.requires.small _ c.loop-j-test.true }
 
-pub overflow_add-j : goal.overflow_add-j
-overflow_add-j c = omega (arith, c.requires.few, c.loop-j-test.true)
-
 pub loop-j-smaller : goal.loop-j-smaller
 loop-j-smaller c = omega (arith, c.loop-j-test.true)
 

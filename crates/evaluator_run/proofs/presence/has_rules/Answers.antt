@@ -17,9 +17,6 @@ mark_step-requires c = c.requires
 pub returns-then-not-mark_step : goal.returns-then-not-mark_step
 returns-then-not-mark_step c = marks-stop _ _ _ _ _ _ c.loop-k.invariant.1 _ c.nth_step.ensures c.mark_step.result _ c.mark_step.ensures c.if-not-mark_step.true c.loop-k-test.true
 
-pub overflow_add-k : goal.overflow_add-k
-overflow_add-k c = omega (arith, c.loop-k-test.true, c.well_formed)
-
 pub loop-k-smaller : goal.loop-k-smaller
 loop-k-smaller c = omega (arith, c.loop-k-test.true)
 

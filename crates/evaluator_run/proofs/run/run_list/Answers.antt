@@ -22,9 +22,6 @@ returns-in-NoRule c = run-refused _ _ _ _ _ _ _ c.loop-k.invariant.2 _ c.nth_ste
 pub returns-in-Over : goal.returns-in-Over
 returns-in-Over c = run-over _ _ _ _ _ _ _ c.loop-k.invariant.2 _ c.nth_step-s.ensures (told_over c.run_step.result _ _ _ _ _ c.run_step.ensures c.in-Over.is) c.loop-k-test.true
 
-pub overflow_add-k : goal.overflow_add-k
-overflow_add-k c = omega (arith, c.loop-k-test.true, c.well_formed)
-
 pub loop-k-smaller : goal.loop-k-smaller
 loop-k-smaller c = omega (arith, c.loop-k-test.true)
 

@@ -20,9 +20,6 @@ returns-in-Malformed c = through_lost _ _ _ _ _ _ _ _ c.loop-i.invariant c.loop-
 pub returns-in-Full : goal.returns-in-Full
 returns-in-Full c = through_lost _ _ _ _ _ _ _ _ c.loop-i.invariant c.loop-i-test.true _ _ _ c.feed_byte.ensures _ _ (was.Full _) c.in-Full.is (λ t w. w)
 
-pub overflow_add-i : goal.overflow_add-i
-overflow_add-i c = omega (arith, c.well_formed)
-
 pub loop-i-smaller : goal.loop-i-smaller
 loop-i-smaller c = omega (arith, c.loop-i-test.true)
 

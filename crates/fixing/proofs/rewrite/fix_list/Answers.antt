@@ -15,9 +15,6 @@ overflow_mul-k c = omega (arith, record_in c.args.list.now c.loop-k.k c.loop-k-t
 pub fix_record-requires : goal.fix_record-requires
 fix_record-requires c = rewrite-room _ _ _ _ c.loop-k.invariant.1 (record_in c.args.list.now c.loop-k.k c.loop-k-test.true)
 
-pub overflow_add-k : goal.overflow_add-k
-overflow_add-k c = omega (arith, c.loop-k-test.true, c.well_formed)
-
 pub loop-k-smaller : goal.loop-k-smaller
 loop-k-smaller c = omega (arith, c.loop-k-test.true)
 

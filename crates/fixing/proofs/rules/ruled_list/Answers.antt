@@ -18,9 +18,6 @@ ruled_record-refused-requires c = record_in c.args.list.now c.loop-k.k c.loop-k-
 pub returns-then-refused-ne-NONE : goal.returns-then-refused-ne-NONE
 returns-then-refused-ne-NONE c = ruled-stop _ _ _ c.loop-k.invariant.1 _ refl _ c.ruled_record-refused.ensures c.loop-k-test.true c.if-refused-ne-NONE.true
 
-pub overflow_add-k : goal.overflow_add-k
-overflow_add-k c = omega arith
-
 pub loop-k-smaller : goal.loop-k-smaller
 loop-k-smaller c = omega arith
 

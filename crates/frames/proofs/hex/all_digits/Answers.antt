@@ -19,9 +19,6 @@ is_digit-requires c = tt
 pub returns-then-not-is_digit : goal.returns-then-not-is_digit
 returns-then-not-is_digit c = digits_fail _ _ c.loop-i.invariant c.loop-i-test.true (via-not c.is_digit.ensures (ap not c.if-not-is_digit.true))
 
-pub overflow_add-i : goal.overflow_add-i
-overflow_add-i c = omega arith
-
 pub loop-i-smaller : goal.loop-i-smaller
 loop-i-smaller c = omega arith
 

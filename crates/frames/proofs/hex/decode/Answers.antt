@@ -16,9 +16,6 @@ bounds-line-i c = omega (arith, c.loop-i.invariant.half, c.loop-i.invariant.insi
 pub overflow_mul-i-in-loop-i : goal.overflow_mul-i-in-loop-i
 overflow_mul-i-in-loop-i c = omega (arith, c.loop-i.invariant.half, c.loop-i.invariant.inside, c.loop-i-test.true, line _ c.requires)
 
-pub overflow_add-i : goal.overflow_add-i
-overflow_add-i c = omega (arith, c.loop-i.invariant.half, c.loop-i.invariant.inside, c.loop-i-test.true, line _ c.requires)
-
 pub bounds-line-i-in-loop-i : goal.bounds-line-i-in-loop-i
 bounds-line-i-in-loop-i c = omega (arith, c.loop-i.invariant.half, c.loop-i.invariant.inside, c.loop-i-test.true, line _ c.requires)
 
@@ -27,9 +24,6 @@ pair-requires c = decode_digit _ c.requires _ _ _ _ c.loop-i.invariant c.loop-i-
 
 pub bounds-out-i : goal.bounds-out-i
 bounds-out-i c = omega (arith, c.loop-i.invariant.half, c.loop-i.invariant.inside, c.loop-i-test.true, line _ c.requires)
-
-pub overflow_add-i-in-loop-i : goal.overflow_add-i-in-loop-i
-overflow_add-i-in-loop-i c = omega (arith, c.loop-i.invariant.half, c.loop-i.invariant.inside, c.loop-i-test.true, line _ c.requires)
 
 pub loop-i-smaller : goal.loop-i-smaller
 loop-i-smaller c = omega (arith, c.loop-i.invariant.half, c.loop-i.invariant.inside, c.loop-i-test.true, line _ c.requires)

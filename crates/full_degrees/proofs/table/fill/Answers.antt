@@ -9,9 +9,6 @@ loop-i-init c = (omega arith, λ l rank a. upto-none a c.requires.0)
 pub tree_degree-requires : goal.tree_degree-requires
 tree_degree-requires c = let P = c.requires.1 in (P.0, c.args.n, c.args.m, P.1, upto-asks P.2 (c.loop-i.invariant.1 P.0 P.1 P.2) c.loop-i-test.true)
 
-pub overflow_add-i : goal.overflow_add-i
-overflow_add-i c = omega (arith, c.loop-i-test.true)
-
 pub loop-i-smaller : goal.loop-i-smaller
 loop-i-smaller c = omega (arith, c.loop-i-test.true)
 

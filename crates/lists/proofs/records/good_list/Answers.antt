@@ -20,9 +20,6 @@ good_record-requires c = record_in c.args.list.now c.loop-k.k c.loop-k-test.true
 pub returns-then-not-good_record : goal.returns-then-not-good_record
 returns-then-not-good_record c = good-stop _ _ _ refl _ c.good_record.ensures c.loop-k-test.true c.if-list-ne0.false c.if-not-good_record.true
 
-pub overflow_add-k : goal.overflow_add-k
-overflow_add-k c = omega arith
-
 pub loop-k-smaller : goal.loop-k-smaller
 loop-k-smaller c = omega arith
 

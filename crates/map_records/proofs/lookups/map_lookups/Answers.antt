@@ -16,9 +16,6 @@ loop-i-init c = (omega arith, λ l k m rank a. a.state)
 pub map_lookup-n-requires : goal.map_lookup-n-requires
 map_lookup-n-requires c = (omega (arith, c.loop-i-test.true, c.pu_count-count.ensures.is), (c.requires.0, c.requires.1, c.requires.2, c.requires.3, begun-at c.requires.4 (c.loop-i.invariant.1 c.requires.0 c.requires.1 c.requires.2 c.requires.3 c.requires.4)))
 
-pub overflow_add-i : goal.overflow_add-i
-overflow_add-i c = omega (arith, c.loop-i-test.true)
-
 pub loop-i-smaller : goal.loop-i-smaller
 loop-i-smaller c = omega (arith, c.loop-i-test.true)
 

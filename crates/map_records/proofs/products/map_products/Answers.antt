@@ -14,9 +14,6 @@ loop-i-init c = (omega arith, λ p s. s)
 pub map_product-n-requires : goal.map_product-n-requires
 map_product-n-requires c = (omega (arith, c.loop-i-test.true, c.product_count-count.ensures.is), (c.requires.0, (c.requires.1.0, c.loop-i.invariant.1 c.requires.1.0 c.requires.1.1)))
 
-pub overflow_add-i : goal.overflow_add-i
-overflow_add-i c = omega (arith, c.loop-i-test.true)
-
 pub loop-i-smaller : goal.loop-i-smaller
 loop-i-smaller c = omega (arith, c.loop-i-test.true)
 

@@ -23,9 +23,6 @@ offset_bounds-cmdims-i c = omega (arith, c.requires.0.fits, c.cm1_of-count.ensur
 pub bounds-cmdims-i : goal.bounds-cmdims-i
 bounds-cmdims-i c = let h = c.loop-i.invariant.1 c.requires.1.0 c.requires.1.1 in omega (arith, h.cm_size, c.requires.0.fits, c.cm1_of-count.ensures.is, c.loop-i-test.true)
 
-pub overflow_add-i : goal.overflow_add-i
-overflow_add-i c = omega (arith, c.loop-i-test.true)
-
 pub loop-i-smaller : goal.loop-i-smaller
 loop-i-smaller c = omega (arith, c.loop-i-test.true)
 

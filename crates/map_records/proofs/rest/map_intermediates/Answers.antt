@@ -59,9 +59,6 @@ offset_bounds-cmdims-z c = omega (arith, few-cms c.args.plan.now c.requires.4.re
 pub bounds-cmdims-z : goal.bounds-cmdims-z
 bounds-cmdims-z c = omega (arith, (c.loop-i.invariant.1 c.requires.0 c.requires.1 c.requires.2 c.requires.3 c.requires.4).cm_size, few-cms c.args.plan.now c.requires.4.ready.planned, (counts-agree c.args.plan.now c.requires.4.ready.planned.agree).third, c.loop-i-test.true, c.im_count-count.ensures.is, c.cm1_of.ensures.is, c.cm2_of.ensures.is)
 
-pub overflow_add-i : goal.overflow_add-i
-overflow_add-i c = omega (arith, c.loop-i-test.true)
-
 pub loop-i-smaller : goal.loop-i-smaller
 loop-i-smaller c = omega (arith, c.loop-i-test.true)
 

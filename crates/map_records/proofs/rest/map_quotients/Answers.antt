@@ -47,9 +47,6 @@ offset_bounds-cmdims-at c = omega (arith, few-cms c.args.plan.now c.requires.0, 
 pub bounds-cmdims-at : goal.bounds-cmdims-at
 bounds-cmdims-at c = omega (arith, (c.loop-i.invariant.1 c.requires.1.0 c.requires.1.1).cm_size, few-cms c.args.plan.now c.requires.0, (counts-agree c.args.plan.now c.requires.0.agree).fourth, c.loop-i-test.true, c.q_deg_of-count.ensures.is, c.cm1_of.ensures.is, c.cm2_of.ensures.is, c.cm3_of.ensures.is)
 
-pub overflow_add-i : goal.overflow_add-i
-overflow_add-i c = omega (arith, c.cm1_of.ensures.low, c.cm2_of.ensures.low, c.cm3_of.ensures.low, c.q_deg_of-count.ensures.low, c.loop-i-test.true)
-
 pub loop-i-smaller : goal.loop-i-smaller
 loop-i-smaller c = omega (arith, c.loop-i-test.true)
 

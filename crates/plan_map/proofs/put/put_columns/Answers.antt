@@ -23,9 +23,6 @@ bounds-records-k c = omega (arith, c.requires.0, c.loop-k-test.true)
 pub put_pair-at-requires : goal.put_pair-at-requires
 put_pair-at-requires c = omega (arith, c.requires.1, c.loop-k-test.true, puts-size c.loop-k.invariant.1, rows_end (column_row c.args.columns.now c.args.records.now) c.loop-k.k c.loop-k.invariant.1 2 (λ j. refl))
 
-pub overflow_add-k : goal.overflow_add-k
-overflow_add-k c = omega (arith, c.requires.0, c.loop-k-test.true)
-
 pub loop-k-smaller : goal.loop-k-smaller
 loop-k-smaller c = omega (arith, c.requires.0, c.loop-k-test.true)
 

@@ -19,9 +19,6 @@ put_u16-requires c = omega (arith, c.requires.1, c.loop-k-test.true, puts-size c
 pub overflow_add-at : goal.overflow_add-at
 overflow_add-at c = omega (arith, c.requires.0, c.requires.1, c.loop-k-test.true, c.loop-k.invariant.1)
 
-pub overflow_add-k : goal.overflow_add-k
-overflow_add-k c = omega (arith, c.requires.0, c.requires.1, c.loop-k-test.true, c.loop-k.invariant.1)
-
 pub loop-k-smaller : goal.loop-k-smaller
 loop-k-smaller c = omega (arith, c.requires.0, c.requires.1, c.loop-k-test.true, c.loop-k.invariant.1)
 

@@ -18,9 +18,6 @@ bounds-offsets-s c = omega (arith, c.requires.0, c.loop-s-test.true)
 pub put_offset-at-requires : goal.put_offset-at-requires
 put_offset-at-requires c = omega (arith, c.requires.1, c.loop-s-test.true, puts-size c.loop-s.invariant.1, rows_end (offset_row c.args.offsets.now) c.loop-s.s c.loop-s.invariant.1 4 (λ j. refl))
 
-pub overflow_add-s : goal.overflow_add-s
-overflow_add-s c = omega (arith, c.requires.0, c.loop-s-test.true)
-
 pub loop-s-smaller : goal.loop-s-smaller
 loop-s-smaller c = omega (arith, c.requires.0, c.loop-s-test.true)
 

@@ -29,9 +29,6 @@ bounds-positions-k c = omega (arith, c.requires.0, c.loop-k-test.true)
 pub put_record-at-requires : goal.put_record-at-requires
 put_record-at-requires c = omega (arith, c.requires.1, c.loop-k-test.true, puts-size c.loop-k.invariant.1, rows_end (record_row c.args.sections.now c.args.dims.now c.args.positions.now) c.loop-k.k c.loop-k.invariant.1 3 (λ j. refl))
 
-pub overflow_add-k : goal.overflow_add-k
-overflow_add-k c = omega (arith, c.requires.0, c.loop-k-test.true)
-
 pub loop-k-smaller : goal.loop-k-smaller
 loop-k-smaller c = omega (arith, c.requires.0, c.loop-k-test.true)
 

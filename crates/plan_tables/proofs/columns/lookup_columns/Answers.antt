@@ -32,9 +32,6 @@ number_at-requires-in-loop-i c = omega (arith, c.requires.0.0.0, c.requires.0.0.
 pub put_column-n-requires-in-loop-i : goal.put_column-n-requires-in-loop-i
 put_column-n-requires-in-loop-i c = (c.number_at-in-loop-i.ensures.low, omega (arith, t-room c.args.plan.now c.requires.0 c.loop-i.i (omega (arith, c.loop-i-test.true, c.pu_count-count.ensures.is)) c.number_at-in-loop-i.ensures, c.loop-i.invariant.1.counted.tells.full, asked-size c.put_column-n.ensures.asked), omega (arith, lookups-room c.args.plan.now c.requires.0 c.loop-i.i (omega (arith, c.loop-i-test.true, c.pu_count-count.ensures.is)) c.loop-i.invariant.1, c.put_column-n.ensures.count, asked-few c.put_column-n.ensures.asked))
 
-pub overflow_add-i : goal.overflow_add-i
-overflow_add-i c = omega (arith, c.requires.0.0.0, c.requires.0.0.1, c.pu_count-count.ensures.is, c.pu_count-count.ensures.low, c.loop-i-test.true)
-
 pub loop-i-smaller : goal.loop-i-smaller
 loop-i-smaller c = omega (arith, c.loop-i-test.true)
 

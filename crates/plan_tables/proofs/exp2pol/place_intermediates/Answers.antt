@@ -56,9 +56,6 @@ offset_bounds-exp2pol-e c = omega (arith, ims-below c.args.plan.now (λ j. get_o
 pub bounds-exp2pol-e : goal.bounds-exp2pol-e
 bounds-exp2pol-e c = ims-below c.args.plan.now (λ j. get_or c.args.cms.now (im_place c.args.plan.now j) 0) c.requires.1.1.3 c.loop-i.i (omega (arith, c.loop-i-test.true, c.im_count-count.ensures.is)) (at_same c.args.plan.now _ c.number_at-e.ensures (omega (arith, c.im_at-at.ensures.is)))
 
-pub overflow_add-i : goal.overflow_add-i
-overflow_add-i c = omega (arith, c.loop-i-test.true)
-
 pub loop-i-smaller : goal.loop-i-smaller
 loop-i-smaller c = omega (arith, c.loop-i-test.true)
 

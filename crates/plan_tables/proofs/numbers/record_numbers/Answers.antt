@@ -16,9 +16,6 @@ bounds-sections-k c = omega (arith, c.requires.0, c.requires.1, c.loop-k-test.tr
 pub put_number-n-requires : goal.put_number-n-requires
 put_number-n-requires c = (numbers-room c.args.from c.args.to c.args.sections.now c.loop-k.invariant.1 (omega (arith, c.requires.0, c.requires.1, c.loop-k-test.true)), omega (arith, c.requires.1, c.loop-k-test.true))
 
-pub overflow_add-k : goal.overflow_add-k
-overflow_add-k c = omega (arith, c.requires.0, c.requires.1, c.loop-k-test.true)
-
 pub loop-k-smaller : goal.loop-k-smaller
 loop-k-smaller c = omega (arith, c.requires.0, c.requires.1, c.loop-k-test.true)
 

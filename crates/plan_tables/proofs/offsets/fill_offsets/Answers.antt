@@ -15,9 +15,6 @@ bounds-offsets-s c = omega (arith, c.loop-s-test.true, c.loop-s.invariant.inside
 pub section_rows-rows-requires : goal.section_rows-rows-requires
 section_rows-rows-requires c = c.requires.0
 
-pub overflow_add-s : goal.overflow_add-s
-overflow_add-s c = omega (arith, c.loop-s-test.true, c.loop-s.invariant.inside)
-
 pub offset_bounds-widths-s : goal.offset_bounds-widths-s
 offset_bounds-widths-s c = omega (arith, c.loop-s-test.true, c.loop-s.invariant.inside)
 
@@ -29,9 +26,6 @@ section_size-at-requires c = c.section_rows-rows.ensures.most
 
 pub overflow_add-at : goal.overflow_add-at
 overflow_add-at c = omega (arith, c.loop-s.invariant.most, c.section_size-at.ensures.most, c.loop-s-test.true)
-
-pub overflow_add-s-in-loop-s : goal.overflow_add-s-in-loop-s
-overflow_add-s-in-loop-s c = omega (arith, c.loop-s-test.true, c.loop-s.invariant.inside)
 
 pub loop-s-smaller : goal.loop-s-smaller
 loop-s-smaller c = omega (arith, c.loop-s-test.true, c.loop-s.invariant.inside)

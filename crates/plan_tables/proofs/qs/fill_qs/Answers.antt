@@ -31,9 +31,6 @@ offset_bounds-numbers-i c = omega (arith, c.requires.0, c.requires.1, c.qs_count
 pub bounds-numbers-i : goal.bounds-numbers-i
 bounds-numbers-i c = omega (arith, c.requires.0, c.requires.1, c.qs_count-count.ensures.is, c.qs_count-count.ensures.low, c.qs_at-at.ensures.is, c.qs_at-at.ensures.low, c.loop-i-test.true)
 
-pub overflow_add-i : goal.overflow_add-i
-overflow_add-i c = omega (arith, c.requires.0, c.requires.1, c.qs_count-count.ensures.is, c.qs_count-count.ensures.low, c.qs_at-at.ensures.is, c.qs_at-at.ensures.low, c.loop-i-test.true)
-
 pub loop-i-smaller : goal.loop-i-smaller
 loop-i-smaller c = omega (arith, c.loop-i-test.true)
 

@@ -47,9 +47,6 @@ offset_bounds-rules-e c = omega (arith, ims-below c.args.plan.now (λ j. packed 
 pub bounds-rules-e : goal.bounds-rules-e
 bounds-rules-e c = ims-below c.args.plan.now (λ j. packed kind.cm (im_cm c.args.plan.now j) 0) c.requires.1.3 c.loop-i.i (omega (arith, c.loop-i-test.true, c.im_count-count.ensures.is)) (at_same c.args.plan.now _ c.number_at-e.ensures (omega (arith, c.im_at-at.ensures.is)))
 
-pub overflow_add-i : goal.overflow_add-i
-overflow_add-i c = omega (arith, c.loop-i-test.true)
-
 pub loop-i-smaller : goal.loop-i-smaller
 loop-i-smaller c = omega (arith, c.loop-i-test.true)
 

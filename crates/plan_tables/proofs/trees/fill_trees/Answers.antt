@@ -28,9 +28,6 @@ bounds-dims-k c = omega (arith, c.requires.0, c.requires.1, c.loop-k-test.true)
 pub put_tree-n-requires : goal.put_tree-n-requires
 put_tree-n-requires c = omega (arith, trees-room c.args.sections.now c.args.dims.now c.args.positions.now c.args.count (omega (arith, c.requires.0, c.requires.1)) c.loop-k.invariant.1 c.loop-k-test.true, c.requires.1, c.loop-k-test.true)
 
-pub overflow_add-k : goal.overflow_add-k
-overflow_add-k c = omega (arith, c.requires.0, c.requires.1, c.loop-k-test.true)
-
 pub loop-k-smaller : goal.loop-k-smaller
 loop-k-smaller c = omega (arith, c.requires.0, c.requires.1, c.loop-k-test.true)
 

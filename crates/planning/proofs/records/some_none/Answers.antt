@@ -16,9 +16,6 @@ bounds-dims-i c = omega (arith, c.requires.0, c.requires.1, c.loop-i-test.true)
 pub returns-then-dims-i-eq0 : goal.returns-then-dims-i-eq0
 returns-then-dims-i-eq0 c = sym (some-none-at c.args.dims.now c.loop-i.i _ c.loop-i-test.true (omega (arith, c.requires.0, c.requires.1, c.loop-i-test.true)) c.if-dims-i-eq0.true)
 
-pub overflow_add-i : goal.overflow_add-i
-overflow_add-i c = omega (arith, c.requires.0, c.requires.1, c.loop-i-test.true)
-
 pub loop-i-smaller : goal.loop-i-smaller
 loop-i-smaller c = omega (arith, c.loop-i-test.true)
 

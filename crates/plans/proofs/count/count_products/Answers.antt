@@ -35,9 +35,6 @@ ask-count-requires-in-loop-i c = omega (arith, c.number_at-in-loop-i.ensures.low
 pub overflow_add-count-in-loop-i : goal.overflow_add-count-in-loop-i
 overflow_add-count-in-loop-i c = omega (arith, c.product_count-n.ensures.low, c.loop-i-test.true, c.loop-i.invariant.1.few, asked-few c.ask-count.ensures, asked-few c.ask-count-in-loop-i.ensures)
 
-pub overflow_add-i : goal.overflow_add-i
-overflow_add-i c = omega (arith, c.loop-i-test.true)
-
 pub loop-i-smaller : goal.loop-i-smaller
 loop-i-smaller c = omega (arith, c.loop-i-test.true)
 

@@ -28,9 +28,6 @@ number_at-e-requires c = omega (arith, c.requires.1.whole.0, c.requires.1.whole.
 pub bounds-seen-e : goal.bounds-seen-e
 bounds-seen-e c = let n = number_is c.args.plan.now {j = im_at c.args.plan.now + 2 * c.loop-i.i} c.number_at-e.ensures (omega (arith, c.im_at-at.ensures.is)) in omega (arith, im-low c.args.plan.now c.requires.1 (omega (arith, c.loop-i-test.true, c.im_count-n.ensures.is)) n, (c.loop-i.invariant.1 c.requires.0 c.requires.1).full)
 
-pub overflow_add-i : goal.overflow_add-i
-overflow_add-i c = omega (arith, c.requires.1.whole.0, c.requires.1.whole.1, c.im_count-n.ensures.is, c.im_count-n.ensures.low, c.im_at-at.ensures.is, c.im_at-at.ensures.low, c.loop-i-test.true)
-
 pub loop-i-smaller : goal.loop-i-smaller
 loop-i-smaller c = omega (arith, c.loop-i-test.true)
 

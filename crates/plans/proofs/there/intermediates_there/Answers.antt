@@ -28,9 +28,6 @@ number_at-requires c = omega (arith, c.requires.0, c.requires.1, c.im_count-n.en
 pub returns-then-m-number_at : goal.returns-then-m-number_at
 returns-then-m-number_at c = every-fails (im_there c.args.plan.now c.args.m) (im_count c.args.plan.now) c.loop-i.i (omega (arith, c.loop-i-test.true, c.im_count-n.ensures.is)) (below-not (at_same c.args.plan.now _ c.number_at.ensures (omega (arith, c.im_at-at.ensures.is))) c.if-m-number_at.true)
 
-pub overflow_add-i : goal.overflow_add-i
-overflow_add-i c = omega (arith, c.requires.0, c.requires.1, c.im_count-n.ensures.is, c.im_count-n.ensures.low, c.im_at-at.ensures.is, c.im_at-at.ensures.low, c.loop-i-test.true)
-
 pub loop-i-smaller : goal.loop-i-smaller
 loop-i-smaller c = omega (arith, c.loop-i-test.true)
 

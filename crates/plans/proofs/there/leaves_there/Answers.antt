@@ -22,9 +22,6 @@ pub returns-then-not-leaf_there : goal.returns-then-not-leaf_there
 unfolding leaves_there
 returns-then-not-leaf_there c = every-fails (node_there c.args.nodes.now c.args.cms c.args.qs) _ c.loop-i.i c.loop-i-test.true (node-same c.args.nodes.now c.args.cms c.args.qs c.loop-i.i c.kind_at.ensures c.id.ensures c.leaf_there.ensures c.if-not-leaf_there.true)
 
-pub overflow_add-i : goal.overflow_add-i
-overflow_add-i c = omega (arith, c.requires, c.loop-i-test.true)
-
 pub loop-i-smaller : goal.loop-i-smaller
 loop-i-smaller c = omega (arith, c.loop-i-test.true)
 

@@ -31,9 +31,6 @@ number_at-requires-in-loop-i c = omega (arith, c.requires.0, c.requires.1, c.pro
 pub returns-then-m-number_at-2 : goal.returns-then-m-number_at-2
 returns-then-m-number_at-2 c = every-fails (product_there c.args.plan.now c.args.m) (product_count c.args.plan.now) c.loop-i.i (omega (arith, c.loop-i-test.true, c.product_count-n.ensures.is)) (both-second (num_of c.args.plan.now c.loop-i.i) (at_same c.args.plan.now _ c.number_at-in-loop-i.ensures (omega (arith, c.product_at-num.ensures.is))) c.if-m-number_at-2.true)
 
-pub overflow_add-i : goal.overflow_add-i
-overflow_add-i c = omega (arith, c.loop-i-test.true)
-
 pub loop-i-smaller : goal.loop-i-smaller
 loop-i-smaller c = omega (arith, c.loop-i-test.true)
 

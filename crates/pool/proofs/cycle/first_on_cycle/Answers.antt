@@ -9,9 +9,6 @@ loop-e-init c = (omega arith, λ l n a. none-back _ _ _)
 pub least_back-least-requires : goal.least_back-least-requires
 least_back-least-requires c = (c.requires, c.loop-e-test.true)
 
-pub overflow_add-e : goal.overflow_add-e
-overflow_add-e c = omega arith
-
 pub loop-e-smaller : goal.loop-e-smaller
 loop-e-smaller c = omega arith
 

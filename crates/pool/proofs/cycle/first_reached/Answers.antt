@@ -13,9 +13,6 @@ bounds-marks-e c = omega arith
 pub returns-then-marks-e-eq-REACHED : goal.returns-then-marks-e-eq-REACHED
 returns-then-marks-e-eq-REACHED c = passed-found c.loop-e.invariant c.loop-e-test.true (eq-eqb _ _ c.if-marks-e-eq-REACHED.true)
 
-pub overflow_add-e : goal.overflow_add-e
-overflow_add-e c = omega arith
-
 pub loop-e-smaller : goal.loop-e-smaller
 loop-e-smaller c = omega arith
 

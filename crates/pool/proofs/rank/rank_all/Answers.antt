@@ -15,9 +15,6 @@ visit-done-requires c = let P = c.requires in (P.0, P.1, c.args.m, asks _ _ (c.l
 pub returns-then-done-eq-CYCLE : goal.returns-then-done-eq-CYCLE
 returns-then-done-eq-CYCLE c = λ l n a. inl (refl, cycle-is _ _ (c.visit-done.ensures l n _ (asks _ _ (c.loop-e.invariant l n a).1 c.loop-e-test.true)) c.if-done-eq-CYCLE.true)
 
-pub overflow_add-e : goal.overflow_add-e
-overflow_add-e c = omega arith
-
 pub loop-e-smaller : goal.loop-e-smaller
 loop-e-smaller c = omega arith
 

@@ -15,9 +15,6 @@ root-requires c = omega arith
 pub returns-then-n-root : goal.returns-then-n-root
 returns-then-n-root c = passed-found c.loop-e.invariant c.loop-e-test.true (ap (leb _) (sym c.root.ensures) ∙ le-leb _ _ c.if-n-root.true)
 
-pub overflow_add-e : goal.overflow_add-e
-overflow_add-e c = omega arith
-
 pub loop-e-smaller : goal.loop-e-smaller
 loop-e-smaller c = omega arith
 

@@ -13,9 +13,6 @@ offends-requires c = omega arith
 pub returns-then-offends : goal.returns-then-offends
 returns-then-offends c = passed-found c.loop-i.invariant c.loop-i-test.true (sym c.offends.ensures ∙ c.if-offends.true)
 
-pub overflow_add-i : goal.overflow_add-i
-overflow_add-i c = omega arith
-
 pub loop-i-smaller : goal.loop-i-smaller
 loop-i-smaller c = omega arith
 

@@ -10,9 +10,6 @@ loop-i-init c = (omega arith, nodes-none _ _)
 pub tally_children-requires : goal.tally_children-requires
 tally_children-requires c = omega arith
 
-pub overflow_add-i : goal.overflow_add-i
-overflow_add-i c = omega arith
-
 pub loop-i-smaller : goal.loop-i-smaller
 loop-i-smaller c = omega arith
 

@@ -13,9 +13,6 @@ root-requires c = omega arith
 pub tally-requires : goal.tally-requires
 tally-requires c = tt
 
-pub overflow_add-e : goal.overflow_add-e
-overflow_add-e c = omega arith
-
 pub loop-e-smaller : goal.loop-e-smaller
 loop-e-smaller c = omega arith
 

@@ -17,9 +17,6 @@ overflow_add-size c = omega (arith, c.requires, c.loop-k.invariant.0, size_small
 pub overflow_add-size-in-loop-k : goal.overflow_add-size-in-loop-k
 overflow_add-size-in-loop-k c = omega (arith, c.requires, c.loop-k.invariant.0, size_small _ _ _ _ c.loop-k.invariant.1 _ c.node_at.ensures _ c.node_size.ensures _ c.loop-k-test.true c.requires)
 
-pub overflow_add-k : goal.overflow_add-k
-overflow_add-k c = omega (arith, c.requires, c.loop-k-test.true)
-
 pub loop-k-smaller : goal.loop-k-smaller
 loop-k-smaller c = omega (arith, c.loop-k-test.true)
 

@@ -14,9 +14,6 @@ expression_at-requires c = omega (arith, c.requires.few, c.loop-k-test.true)
 pub put_expression-at-requires : goal.put_expression-at-requires
 put_expression-at-requires c = another_fits _ _ _ _ _ c.loop-k.invariant.1 _ c.loop-k-test.true c.requires.room
 
-pub overflow_add-k : goal.overflow_add-k
-overflow_add-k c = omega (arith, c.requires.few, c.loop-k-test.true)
-
 pub loop-k-smaller : goal.loop-k-smaller
 loop-k-smaller c = omega (arith, c.loop-k-test.true)
 

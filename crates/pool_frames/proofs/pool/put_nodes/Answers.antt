@@ -14,9 +14,6 @@ node_at-requires c = omega (arith, c.requires.few, c.loop-k-test.true)
 pub put_node-at-requires : goal.put_node-at-requires
 put_node-at-requires c = next_fits _ _ _ _ _ _ c.loop-k.invariant.1 c.loop-k-test.true c.requires _ c.node_at.ensures
 
-pub overflow_add-k : goal.overflow_add-k
-overflow_add-k c = omega (arith, c.requires.few, c.loop-k-test.true)
-
 pub loop-k-smaller : goal.loop-k-smaller
 loop-k-smaller c = omega (arith, c.loop-k-test.true)
 

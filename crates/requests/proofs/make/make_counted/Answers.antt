@@ -25,9 +25,6 @@ overflow_sub-t c = let P = c.requires in (grows _ _ P.0 P.1 P.2 _ P.3 (c.loop-k.
 pub overflow_add-t : goal.overflow_add-t
 overflow_add-t c = let P = c.requires in let g = grows _ _ P.0 P.1 P.2 _ P.3 (c.loop-k.invariant P.0 P.1 P.2 P.3) c.loop-k-test.true (c.make_one-steps.ensures P.0 (nth_job P.1 c.loop-k.k) (one-asks _ _ P.0 P.1 P.2 c.loop-k-test.true) (one-room _ _ P.0 P.1 P.2 _ P.3 (c.loop-k.invariant P.0 P.1 P.2 P.3) c.loop-k-test.true)) in omega (arith, g.2)
 
-pub overflow_add-k : goal.overflow_add-k
-overflow_add-k c = omega (arith, c.loop-k-test.true, c.requires.2.few)
-
 pub loop-k-smaller : goal.loop-k-smaller
 loop-k-smaller c = omega (arith, c.loop-k-test.true)
 

@@ -19,9 +19,6 @@ size_one-steps-requires c = (c.requires.0, nth_job c.requires.1 c.loop-k.k, one-
 pub overflow_add-steps : goal.overflow_add-steps
 overflow_add-steps c = let P = c.requires in omega (arith, (c.loop-k.invariant P.0 P.1 P.2).small, c.loop-k-test.true, P.2.few, (c.size_one-steps.ensures P.0 (nth_job P.1 c.loop-k.k) (one-asks _ _ P.0 P.1 P.2 c.loop-k-test.true)).1)
 
-pub overflow_add-k : goal.overflow_add-k
-overflow_add-k c = omega (arith, c.loop-k-test.true, c.requires.2.few)
-
 pub loop-k-smaller : goal.loop-k-smaller
 loop-k-smaller c = omega (arith, c.loop-k-test.true)
 

@@ -32,9 +32,6 @@ offset_bounds-words-from c = omega (arith, c.loop-k-test.true, c.requires.2.room
 pub bounds-words-from : goal.bounds-words-from
 bounds-words-from c = omega (arith, c.loop-k-test.true, c.requires.2.room)
 
-pub overflow_add-k : goal.overflow_add-k
-overflow_add-k c = omega (arith, c.loop-k-test.true, c.requires.2.room)
-
 pub loop-k-smaller : goal.loop-k-smaller
 loop-k-smaller c = omega (arith, c.loop-k-test.true)
 

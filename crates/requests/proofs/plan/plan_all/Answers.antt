@@ -16,9 +16,6 @@ returns-in-NotThere c = λ b A a. stop-lost _ _ b A a (c.loop-k.invariant b A a)
 pub returns-in-DoublePrime : goal.returns-in-DoublePrime
 returns-in-DoublePrime c = λ b A a. stop-double _ _ b A a (c.loop-k.invariant b A a).1 c.loop-k-test.true _ _ c.plan_request.result (c.plan_request.ensures b A (one-asks _ _ b A a (c.loop-k.invariant b A a).1 c.loop-k-test.true)) c.in-DoublePrime.is
 
-pub overflow_add-k : goal.overflow_add-k
-overflow_add-k c = omega (arith, c.loop-k-test.true)
-
 pub loop-k-smaller : goal.loop-k-smaller
 loop-k-smaller c = omega (arith, c.loop-k-test.true)
 

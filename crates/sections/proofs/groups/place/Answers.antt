@@ -38,9 +38,6 @@ bounds-positions-i-in-loop-i c = omega (arith, c.loop-i.invariant.2.long, c.requ
 pub add_record-requires : goal.add_record-requires
 add_record-requires c = (c.requires.0.known c.loop-i.i (omega (arith, c.requires.0.paired)), tallied-small _ _ _ _ c.loop-i.invariant.1 (omega (arith, c.requires.0.few)))
 
-pub overflow_add-i : goal.overflow_add-i
-overflow_add-i c = omega (arith, c.requires.0.few, c.loop-i-test.true)
-
 pub loop-i-smaller : goal.loop-i-smaller
 loop-i-smaller c = omega (arith, c.loop-i-test.true)
 

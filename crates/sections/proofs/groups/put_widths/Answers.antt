@@ -25,9 +25,6 @@ offset_bounds-widths-at c = omega (arith, c.requires.1, c.well_formed)
 pub bounds-widths-at : goal.bounds-widths-at
 bounds-widths-at c = omega (arith, c.requires.1, c.loop-s.invariant.2)
 
-pub overflow_add-s : goal.overflow_add-s
-overflow_add-s c = omega arith
-
 pub loop-s-smaller : goal.loop-s-smaller
 loop-s-smaller c = omega arith
 

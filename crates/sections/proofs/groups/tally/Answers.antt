@@ -22,9 +22,6 @@ bounds-dims-i c = omega arith
 pub add_record-requires : goal.add_record-requires
 add_record-requires c = (c.requires.0.known c.loop-i.i (omega (arith, c.requires.0.paired)), tallied-small _ _ _ _ c.loop-i.invariant.1 (omega (arith, c.requires.0.few)))
 
-pub overflow_add-i : goal.overflow_add-i
-overflow_add-i c = omega (arith, c.requires.0.few)
-
 pub loop-i-smaller : goal.loop-i-smaller
 loop-i-smaller c = omega arith
 

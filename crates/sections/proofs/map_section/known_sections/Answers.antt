@@ -19,9 +19,6 @@ overflow_cast-sections c = omega (arith, c.type_inv.sections c.loop-k.k)
 pub returns-then-sections-k-ge-COUNT : goal.returns-then-sections-k-ge-COUNT
 returns-then-sections-k-ge-COUNT c = known-stop c.args.sections.now c.loop-k.k _ c.loop-k-test.true c.requires c.if-sections-k-ge-COUNT.true
 
-pub overflow_add-k : goal.overflow_add-k
-overflow_add-k c = omega (arith, c.requires, c.well_formed)
-
 pub loop-k-smaller : goal.loop-k-smaller
 loop-k-smaller c = omega arith
 

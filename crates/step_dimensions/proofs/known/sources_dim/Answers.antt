@@ -26,9 +26,6 @@ returns-then-dim-eq0 c = λ h. absurd (h refl)
 pub larger-most-requires : goal.larger-most-requires
 larger-most-requires c = tt
 
-pub overflow_add-place : goal.overflow_add-place
-overflow_add-place c = omega (arith, c.requires, c.loop-place-test.true)
-
 pub loop-place-smaller : goal.loop-place-smaller
 loop-place-smaller c = omega (arith, c.loop-place-test.true)
 

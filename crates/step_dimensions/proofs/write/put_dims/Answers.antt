@@ -35,9 +35,6 @@ put_u16-requires c = omega (arith, c.requires, c.loop-place.invariant.1, c.loop-
 pub larger-most-requires : goal.larger-most-requires
 larger-most-requires c = tt
 
-pub overflow_add-place : goal.overflow_add-place
-overflow_add-place c = omega (arith, c.requires, c.loop-place-test.true)
-
 pub loop-place-smaller : goal.loop-place-smaller
 loop-place-smaller c = omega (arith, c.loop-place-test.true)
 
