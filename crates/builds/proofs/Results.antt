@@ -1,6 +1,6 @@
 -- The turns of the loops that look for a block, count its place and move steps up; and a copy put in. No word of the code.
 -- Assumes nothing.
-use Prim.Native.Nat.{ℕ, suc, ◌+◌, ◌*◌, ◌-◌, ◌≤◌, ◌<◌}
+use Prim.Native.Nat.{ℕ, zero, suc, ◌+◌, ◌*◌, ◌-◌, ◌≤◌, ◌<◌}
 use mathlib.Core.Path.{◌≡◌, refl, sym, ◌∙◌, ap}
 use mathlib.Core.List.{List, [], ◌∷◌, ◌++◌}
 use mathlib.Core.Logic.{inl}
@@ -19,30 +19,48 @@ use Rattle.starkinfo_codegen.specs.Sources.{copy_step}
 use Rattle.builds.specs.Raw.{cell_in, steps_in, start_of, records_from}
 use Rattle.builds.specs.Starts.{step-drop, start-next, start-le}
 use Rattle.builds.specs.Results.{find_block, inserted}
-use Rattle.builds.specs.declared.result.Found.TheVariants as found
+use Rattle.std.specs.Prelude.{Option, Some, None, MatchOption}
+use Rattle.std.specs.List.{AllWithin, HoldsAt}
+use Rattle.std.proofs.Common.{get_or-take}
+use lib.ListN.{take, length-take}
 
 -- ── the block of a cell ──────────────────────────────────────────────────────
-pub record Sought (t : List ℕ) (n c k : ℕ) : Type 0 where
-  pub below : k ≤ n
-  pub is : find_block t k c ≡ found.Nothing
-
-pub none_sought : (t : List ℕ) (n c : ℕ) → Sought t n c 0
+find-none : (t : List ℕ) (n c : ℕ) → ((k : ℕ) → k < n → cell_in (get_or t k 0) ≡ c → ⊥) → find_block t n c ≡ None
 unfolding find_block
-none_sought t n c = record { below = omega arith; is = refl }
+find-none t zero c h = refl
+find-none t (suc n) c h = rw (find-none t n c (λ k g. h k (omega arith)), ne_eqb (cell_in (get_or t n 0)) c (h n (omega arith)))
 
-module _ {t : List ℕ} {n c k : ℕ} (p : Sought t n c k) (h : k < n) {v : ℕ} (e : v ≡ cell_in (get_or t k 0)) where
-  pub one_sought : (v ≡ c → ⊥) → Sought t n c (k + 1)
-  unfolding find_block
-  one_sought g = record { below = omega arith; is = rw (add-one k, p.is, ne_eqb (cell_in (get_or t k 0)) c (λ q. g (e ∙ q))) }
+find-there : (t : List ℕ) (n c i : ℕ) → i < n → cell_in (get_or t i 0) ≡ c → ((k : ℕ) → k < i → cell_in (get_or t k 0) ≡ c → ⊥) → find_block t n c ≡ Some i
+unfolding find_block
+find-there t n c i l e h =
+    let z : find_block t (suc i) c ≡ Some i = rw (find-none t i c h, eq-eqb (cell_in (get_or t i 0)) c e) in
+    le_ind (λ n. find_block t n c ≡ Some i) z (λ n o q. rw q) n l
 
-  pub found_here : v ≡ c → found.At k ≡ find_block t n c
-  unfolding find_block
-  found_here g =
-      let z : find_block t (suc k) c ≡ found.At k = rw (p.is, eq-eqb (cell_in (get_or t k 0)) c (sym e ∙ g)) in
-      sym (le_ind (λ n. find_block t n c ≡ found.At k) z (λ n o q. rw q) n h)
+-- what `position` among the first n words answers
+pub find-first :
+    (t : List ℕ) (n c : ℕ) (r : Option ℕ) → n ≤ length t
+    → MatchOption r
+    (AllWithin (λ w. cell_in w ≡ c → ⊥) (take n t) 0 (length (take n t)))
+    (λ i. (i < length (take n t)) × HoldsAt (λ w. cell_in w ≡ c) (take n t) i × AllWithin (λ w. cell_in w ≡ c → ⊥) (take n t) 0 i)
+    → r ≡ find_block t n c
+find-first t n c r few h = by r h
+  where
+    all : length (take n t) ≡ n
+    all = simp length-take (omega arith)
 
-pub all_sought : {t : List ℕ} {n c k : ℕ} → Sought t n c k → n ≤ k → found.Nothing ≡ find_block t n c
-all_sought {t} {n} {c} {k} p h = let q : k ≡ n = omega (arith, p.below) in sym p.is ∙ ap (λ j. find_block t j c) q
+    at : (k : ℕ) → k < n → get_or (take n t) k 0 ≡ get_or t k 0
+    at k j = get_or-take n t k 0 j
+
+    by :
+        (r : Option ℕ)
+        → MatchOption r
+        (AllWithin (λ w. cell_in w ≡ c → ⊥) (take n t) 0 (length (take n t)))
+        (λ i. (i < length (take n t)) × HoldsAt (λ w. cell_in w ≡ c) (take n t) i × AllWithin (λ w. cell_in w ≡ c → ⊥) (take n t) 0 i)
+        → r ≡ find_block t n c
+    by None h = sym (find-none t n c (λ k j e. h k 0 (omega arith) (omega (arith, all)) (ap cell_in (at k j) ∙ e)))
+    by (Some i) h =
+        let j : i < n = omega (arith, h.0, all) in
+        sym (find-there t n c i j (ap cell_in (sym (at i j)) ∙ h.1 0) (λ k m e. h.2 k 0 (omega arith) m (ap cell_in (at k (omega arith)) ∙ e)))
 
 -- ── where a block starts ─────────────────────────────────────────────────────
 pub record Passed (t : List ℕ) (n k steps : ℕ) : Type 0 where
@@ -101,15 +119,16 @@ none-moved l pos end h =
     record { low = h; high = omega arith; size = refl; is = rw (z, steps-none, steps-bytes-none) (sym (write-none l (step_size * (end + 1)))) }
 
 pub one-moved :
-    {l₀ l l' : List ℕ} {pos end k : ℕ} {s : Step} → Moved l₀ l pos end k → pos < k → s ≡ step_at l (step_size * (k - 1)) → l' ≡ write l (step_size * k) (step_bytes s) →
+    {l₀ l l' : List ℕ} {pos end k : ℕ} {s : Step} → Moved l₀ l pos end k → pos < k → s ≡ step_at l (step_size * (k - 1)) → l' ≡ write l (step_size * (k - 1 + 1)) (step_bytes s) →
     Moved l₀ l' pos end (k - 1)
-one-moved {l₀} {l} {l'} {pos} {end} {k} {s} p h e g =
+one-moved {l₀} {l} {l'} {pos} {end} {k} {s} p h e w =
+    let u : k - 1 + 1 ≡ k = omega arith in
+    let g : l' ≡ write l (step_size * k) (step_bytes s) = rw u at w in
     let rs = records_from l₀ k (end - k) in
     let s₀ : s ≡ step_at l₀ (step_size * (k - 1))
     = e ∙ rw p.is (step_kept l₀ (step_size * (k + 1)) (steps_bytes rs) (step_size * (k - 1)) (inl (omega arith))) in
     let z : suc (k - 1) ≡ k = omega arith in
     let y : end - (k - 1) ≡ suc (end - k) = omega (arith, p.high) in
-    let u : k - 1 + 1 ≡ k = omega arith in
     let c : records_from l₀ (k - 1) (end - (k - 1)) ≡ s ∷ rs = rw (y, records_cons l₀ (k - 1) (end - k), z, ← s₀) in
     let b : steps_bytes (s ∷ rs) ≡ step_bytes s ++ steps_bytes rs = steps-bytes-append (s ∷ []) rs ∙ rw (steps-bytes-one s) in
     let n : step_size * k + length (step_bytes s) ≡ step_size * (k + 1) = omega (arith, step-sized s) in

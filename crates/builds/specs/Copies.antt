@@ -22,8 +22,7 @@ use Rattle.builds.specs.Raw.{RawBlock, cell_in, steps_in, start_of, records_from
 use Rattle.builds.specs.Starts.{step-drop, records-more, records-same, start-next, start-le, from, first-from, from-same}
 use Rattle.builds.specs.Lists.{cell-block, standing-snoc}
 use Rattle.builds.specs.Results.{or_else, find_block, inserted}
-use Rattle.builds.specs.declared.result.Found.{Found}
-use Rattle.builds.specs.declared.result.Found.TheVariants as found
+use Rattle.std.specs.Prelude as code
 
 -- ── the last destination ─────────────────────────────────────────────────────
 last_snoc : (xs : List Step) (x : Step) → last_destination (xs ++ (x ∷ [])) ≡ some x.dest
@@ -99,7 +98,7 @@ module _ (t : List ℕ) (k : ℕ) (there : k < length t) where
 
 -- ── the block of a cell ──────────────────────────────────────────────────────
 -- none is found: none stands
-find_none : (t l : List ℕ) (n e r : ℕ) → r < 2 → find_block t n (cell_of e r) ≡ found.Nothing → standing e r (raw_blocks t l n) ≡ false
+find_none : (t l : List ℕ) (n e r : ℕ) → r < 2 → find_block t n (cell_of e r) ≡ code.None → standing e r (raw_blocks t l n) ≡ false
 unfolding find_block first
 find_none t l zero e r h q = refl
 find_none t l (suc n) e r h q =
@@ -113,32 +112,32 @@ find_none t l (suc n) e r h q =
     off p = ne_eqb (cell_of e r) c (λ z. eqb-false c (cell_of e r) p (sym z))
 
     go :
-        (f : Found) (v : Bool) → find_block t n (cell_of e r) ≡ f → eqb c (cell_of e r) ≡ v → or_else f (cond v (found.At n) found.Nothing) ≡ found.Nothing →
-        (find_block t n (cell_of e r) ≡ found.Nothing → standing e r (raw_blocks t l n) ≡ false) →
+        (f : code.Option ℕ) (v : Bool) → find_block t n (cell_of e r) ≡ f → eqb c (cell_of e r) ≡ v → or_else f (cond v (code.Some n) code.None) ≡ code.None →
+        (find_block t n (cell_of e r) ≡ code.None → standing e r (raw_blocks t l n) ≡ false) →
         (standing e r (raw_blocks t l n) || is_block e r (raw_block_at t l n)) ≡ false
-    go (found.At k) v p u q ih = absurd (let z : ◌≡◌ {A = ℕ} 0 1 = cc in omega arith)
-    go found.Nothing true p u q ih = absurd (let z : ◌≡◌ {A = ℕ} 0 1 = cc in omega arith)
-    go found.Nothing false p u q ih = rw (ih p, cell-block e r c h, off u)
+    go (code.Some k) v p u q ih = absurd (let z : ◌≡◌ {A = ℕ} 0 1 = cc in omega arith)
+    go code.None true p u q ih = absurd (let z : ◌≡◌ {A = ℕ} 0 1 = cc in omega arith)
+    go code.None false p u q ih = rw (ih p, cell-block e r c h, off u)
 
 pub record Here (t : List ℕ) (n c k : ℕ) : Type 0 where
   pub below : k < n
   pub cell : cell_in (get_or t k 0) ≡ c
-  pub first : find_block t k c ≡ found.Nothing
+  pub first : find_block t k c ≡ code.None
 
 -- one is found: it is there, and no earlier one is
-pub find-here : (t : List ℕ) (n c k : ℕ) → find_block t n c ≡ found.At k → Here t n c k
+pub find-here : (t : List ℕ) (n c k : ℕ) → find_block t n c ≡ code.Some k → Here t n c k
 unfolding find_block
 find-here t zero c k q = absurd (let z : ◌≡◌ {A = ℕ} 0 1 = cc in omega arith)
 find-here t (suc n) c k q = go (find_block t n c) (eqb (cell_in (get_or t n 0)) c) refl refl q (find-here t n c k)
   where
     go :
-        (f : Found) (v : Bool) → find_block t n c ≡ f → eqb (cell_in (get_or t n 0)) c ≡ v → or_else f (cond v (found.At n) found.Nothing) ≡ found.At k →
-        (find_block t n c ≡ found.At k → Here t n c k) → Here t (suc n) c k
-    go (found.At j) v p u q ih = let h = ih (p ∙ q) in record { below = omega (arith, h.below); cell = h.cell; first = h.first }
-    go found.Nothing true p u q ih =
+        (f : code.Option ℕ) (v : Bool) → find_block t n c ≡ f → eqb (cell_in (get_or t n 0)) c ≡ v → or_else f (cond v (code.Some n) code.None) ≡ code.Some k →
+        (find_block t n c ≡ code.Some k → Here t n c k) → Here t (suc n) c k
+    go (code.Some j) v p u q ih = let h = ih (p ∙ q) in record { below = omega (arith, h.below); cell = h.cell; first = h.first }
+    go code.None true p u q ih =
         let z : n ≡ k = cc in
         record { below = omega arith; cell = rw (← z) (eqb-true (cell_in (get_or t n 0)) c u); first = rw (← z) p }
-    go found.Nothing false p u q ih = absurd (let z : ◌≡◌ {A = ℕ} 0 1 = cc in omega arith)
+    go code.None false p u q ih = absurd (let z : ◌≡◌ {A = ℕ} 0 1 = cc in omega arith)
 
 -- ── blocks one by one ────────────────────────────────────────────────────────
 copy-none : (e r : ℕ) (d : Reference) (bs : List RawBlock) → standing e r bs ≡ false → copy_into e r d bs ≡ none
@@ -170,10 +169,10 @@ module _ (e r : ℕ) (d : Reference) (b : RawBlock) (ys : List RawBlock) (q : Re
 -- ── the copy over tables ─────────────────────────────────────────────────────
 module _ (t l : List ℕ) (n e r : ℕ) (d : Reference) (row : r < 2) where
   -- NO BLOCK: there is nothing to copy from
-  pub copy-nowhere : find_block t n (cell_of e r) ≡ found.Nothing → copy_into e r d (raw_blocks t l n) ≡ none
+  pub copy-nowhere : find_block t n (cell_of e r) ≡ code.None → copy_into e r d (raw_blocks t l n) ≡ none
   copy-nowhere h = copy-none e r d (raw_blocks t l n) (find_none t l n e r row h)
 
-  module _ (k : ℕ) (at : find_block t n (cell_of e r) ≡ found.At k) (few : n ≤ length t) (enough : 1 ≤ steps_in (get_or t k 0)) (room : step_size * (start_of t n + 1) ≤ length l) where
+  module _ (k : ℕ) (at : find_block t n (cell_of e r) ≡ code.Some k) (few : n ≤ length t) (enough : 1 ≤ steps_in (get_or t k 0)) (room : step_size * (start_of t n + 1) ≤ length l) where
     abbrev w : ℕ
     w = get_or t k 0
 

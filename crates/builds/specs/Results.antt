@@ -6,17 +6,16 @@ use Rattle.kinds.specs.Steps.{step_size, step_at, step_bytes, steps_bytes}
 use Rattle.kinds.specs.declared.reference.Reference.{Reference}
 use Rattle.starkinfo_codegen.specs.Sources.{copy_step}
 use Rattle.builds.specs.Raw.{cell_in, steps_in, start_of, records_from}
-use Rattle.builds.specs.declared.result.Found.{Found}
-use Rattle.builds.specs.declared.result.Found.TheVariants as found
+use Rattle.std.specs.Prelude.{Option, Some, None}
 
-abbrev pub or_else : Found → Found → Found
-or_else (found.At k) other = found.At k
-or_else found.Nothing other = other
+abbrev pub or_else : Option ℕ → Option ℕ → Option ℕ
+or_else (Some k) other = Some k
+or_else None other = other
 
 -- THE FIRST OF n BLOCKS that has cell c
-unfoldable pub find_block : List ℕ → ℕ → ℕ → Found
-find_block t zero c = found.Nothing
-find_block t (suc n) c = or_else (find_block t n c) (cond (eqb (cell_in (get_or t n 0)) c) (found.At n) found.Nothing)
+unfoldable pub find_block : List ℕ → ℕ → ℕ → Option ℕ
+find_block t zero c = None
+find_block t (suc n) c = or_else (find_block t n c) (cond (eqb (cell_in (get_or t n 0)) c) (Some n) None)
 
 -- A LIST OF `end` STEPS WITH A COPY PUT IN at step number `pos`: of the destination of the step before it, into d
 unfoldable pub inserted : List ℕ → ℕ → ℕ → Reference → List ℕ

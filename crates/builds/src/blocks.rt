@@ -1,4 +1,4 @@
-// The block table: for each block a word, its cell and how many steps it has.
+// The block table: for each block a word, its cell and how many steps it has. Packed, so that a table of 1,024 blocks takes 8 KiB of stack.
 ghost use Rattle.std.specs.Prelude.{◌≡◌, ◌*◌, length};
 ghost use Rattle.kinds.specs.Write.{write};
 ghost use Rattle.kinds.specs.Steps.{step_size, steps_bytes};

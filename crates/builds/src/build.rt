@@ -35,6 +35,7 @@ fn fill_standing(blocks: &[u64; JOB_LIMIT], standing: &mut [u8; JOB_LIMIT], n: u
 }
 
 // Is e in E: one of m expressions, with a flag, whose plain and primed blocks both stand?
+#[tactic(auto, unfolding(crate::specs::Numbered::in_table))]
 fn in_e(
     expressions: &[u64; EXPRESSION_LIMIT],
     standing: &[u8; JOB_LIMIT],
@@ -44,16 +45,11 @@ fn in_e(
     requires { m ≤ expression_limit }
     ensures { result ≡ in_table expressions.now m standing.now e }
 {
-    if m <= e {
+    if m <= e || !flagged(expression_at(expressions, e).flags) {
         return false;
     }
-    if flagged(expression_at(expressions, e).flags) {
-        let cell = ROWS * e;
-        if 0 < standing[cell] {
-            return 0 < standing[cell + 1];
-        }
-    }
-    false
+    let cell = ROWS * e;
+    0 < standing[cell] && 0 < standing[cell + 1]
 }
 
 fn skips(which: Which, inside: bool, row: usize) -> bool

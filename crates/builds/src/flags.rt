@@ -25,29 +25,19 @@ fn has(flags: u8, bit: u8) -> bool
 }
 
 // A block of such an expression may be skipped.
+#[tactic(auto, unfolding(crate::specs::Raw::flagged_by))]
 pub fn flagged(flags: u8) -> bool
     ensures { result ≡ flagged_by flags }
 {
-    if has(flags, KEEP) {
-        return true;
-    }
-    if has(flags, KEEP2NS) {
-        return true;
-    }
-    has(flags, IDQ)
+    has(flags, KEEP) || has(flags, KEEP2NS) || has(flags, IDQ)
 }
 
 // keep2ns does not protect from a mark.
+#[tactic(auto, unfolding(crate::specs::Raw::released_by))]
 fn released(flags: u8) -> bool
     ensures { result ≡ released_by flags }
 {
-    if has(flags, KEEP) {
-        return false;
-    }
-    if has(flags, IDQ) {
-        return false;
-    }
-    true
+    !has(flags, KEEP) && !has(flags, IDQ)
 }
 
 fn release_one(expressions: &[u64; EXPRESSION_LIMIT], marks: &mut [u8; JOB_LIMIT], e: usize)

@@ -11,24 +11,12 @@ use kinds::step::{nth_step, put_nth_step};
 use starkinfo_codegen::order::JOB_LIMIT;
 use starkinfo_codegen::source::copy_step;
 
-// A block's number, where there is one.
-#[derive(Drop)]
-pub enum Found {
-    At(usize),
-    Nothing,
-}
-
 // The first of n blocks that has this cell.
-pub fn find_block(blocks: &[u64; JOB_LIMIT], n: usize, cell: usize) -> Found
+pub fn find_block(blocks: &[u64; JOB_LIMIT], n: usize, cell: usize) -> Option<usize>
     requires { n ≤ 1024 }
     ensures { result ≡ find_block blocks.now n cell }
 {
-    for k in 0..n {
-        if cell_of(blocks[k]) == cell {
-            return Found::At(k);
-        }
-    }
-    Found::Nothing
+    blocks[..n].iter().position(|word| cell_of(*word) == cell)
 }
 
 // How many steps the first n blocks have: where block n starts, and the block before it ends.
@@ -56,11 +44,8 @@ fn move_up(list: &mut [u8], pos: usize, end: usize)
     requires { MoveAsks (length list.old) pos end }
     ensures { list.new ≡ write list.old (step_size * (pos + 1)) (steps_bytes (records_from list.old pos (end - pos))) }
 {
-    let mut k = end;
-    while pos < k {
-        let s = nth_step(list, k - 1);
-        put_nth_step(list, k, s);
-        k -= 1;
+    for k in (pos..end).rev() {
+        put_nth_step(list, k + 1, nth_step(list, k));
     }
 }
 

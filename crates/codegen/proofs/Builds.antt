@@ -15,14 +15,15 @@ use Rattle.meaning.proofs.Laws.Tests.{done-same, done-not-refused}
 use Rattle.kinds.specs.Write.{write}
 use Rattle.kinds.specs.Steps.{step_size, steps_bytes, steps-length}
 use Rattle.kinds.specs.declared.step.Step.{Step}
-use Rattle.frames.specs.Order.{Input, blame_answer}
+use Rattle.std.specs.Prelude.{Result, Ok, Err}
+use Rattle.kinds.specs.Answers.{refusal_of, blame_of, refusing}
+use Rattle.kinds.specs.declared.refusal.Refusal.TheVariants as refusal
+use Rattle.kinds.specs.declared.refusal.Refused.{Refused}
+use Rattle.frames.specs.Order.{Input}
 use Rattle.frames.specs.Tables.{Tables, input_in, expression_in}
 use Rattle.frames.specs.Packing.{first-length}
 use Rattle.frames.specs.Reading.{held}
 use Rattle.frames.specs.declared.count.Counts.{Counts}
-use Rattle.frames.specs.declared.count.Blame.{Blame}
-use Rattle.frames.specs.declared.count.Reading.{Reading}
-use Rattle.frames.specs.declared.count.Reading.TheVariants as was
 use Rattle.pool.specs.Pool.{Pool}
 use Rattle.pool.specs.Trees.{forest}
 use Rattle.pool.specs.Verdict.{Verdict}
@@ -46,9 +47,8 @@ use Rattle.codegen.specs.Said.{said, segment_said, after_said}
 use Rattle.codegen.specs.Written.{mark_bytes}
 use Rattle.codegen.specs.Committing.{no_words, StoreAsked}
 use Rattle.codegen.specs.Serving.{OrMalformed}
-use Rattle.codegen.specs.Building.{Lists, lists, fits_all, built_on, AnsweredBuild, Builds, sizes, built_says, TellsBuilt, forest_read, BuildAsks}
-use Rattle.codegen.specs.declared.build.Built.{Built}
-use Rattle.codegen.specs.declared.build.Built.TheVariants as built
+use Rattle.codegen.specs.Building.{Lists, lists, fits_all, built_on, AnsweredBuild, Builds, sizes, Built, built_says, TellsBuilt, forest_read, BuildAsks}
+use Rattle.codegen.specs.declared.build.Sizes.{Sizes}
 use Rattle.codegen.specs.Loads as loads
 use Rattle.codegen.proofs.Serves.{marks-size}
 
@@ -113,21 +113,21 @@ module _ (e : List ℕ) {t x : List ℕ} (l : List ℕ) {m : ℕ} (a : BuildAsks
     fits-is : fits_all o (segment_said F (said x l)) ≡ (leb (step_size * ak) (length o.first) && (leb (step_size * vi) (length o.i) && leb (step_size * vl) (length o.last)))
     fits-is = ap (fits_all o) segment-is ∙ fits_by o S ak vi vl first-size (sym hi) (sym hl)
 
-    not_full : fits_all o (segment_said F (said x l)) ≡ false → TellsBuilt F answer x l o x o built.Full
+    not_full : fits_all o (segment_said F (said x l)) ≡ false → TellsBuilt F answer x l o x o (refusing refusal.Full)
     not_full h =
-        subst (λ (y : Answer RawSegment). TellsBuilt F y x l o x o built.Full) (sym (ap (λ q. cond q (done (segment_said F (said x l))) (refused Refusal.full none)) h))
+        subst (λ (y : Answer RawSegment). TellsBuilt F y x l o x o (refusing refusal.Full)) (sym (ap (λ q. cond q (done (segment_said F (said x l))) (refused Refusal.full none)) h))
         (record { says = refl; stands = (refl, refl) })
 
     module _ {r₁ : Bool} (h₁ : r₁ ≡ leb (step_size * ak) (length o.first)) where
-      pub first-over : r₁ ≡ false → TellsBuilt F answer x l o x o built.Full
+      pub first-over : r₁ ≡ false → TellsBuilt F answer x l o x o (refusing refusal.Full)
       first-over g = not_full (fits-is ∙ rw (sym h₁ ∙ g))
 
       module _ (g₁ : r₁ ≡ true) {r₂ : Bool} (h₂ : r₂ ≡ leb (step_size * vi) (length o.i)) where
-        pub i-over : r₂ ≡ false → TellsBuilt F answer x l o x o built.Full
+        pub i-over : r₂ ≡ false → TellsBuilt F answer x l o x o (refusing refusal.Full)
         i-over g = not_full (fits-is ∙ rw (sym h₁ ∙ g₁, sym h₂ ∙ g))
 
         module _ (g₂ : r₂ ≡ true) {r₃ : Bool} (h₃ : r₃ ≡ leb (step_size * vl) (length o.last)) where
-          pub last-over : r₃ ≡ false → TellsBuilt F answer x l o x o built.Full
+          pub last-over : r₃ ≡ false → TellsBuilt F answer x l o x o (refusing refusal.Full)
           last-over g = not_full (fits-is ∙ rw (sym h₁ ∙ g₁, sym h₂ ∙ g₂, sym h₃ ∙ g))
 
           marks_are : marks_of (release e m (marks_in x)) ≡ (after_said F (said x l)).marks
@@ -139,16 +139,16 @@ module _ (e : List ℕ) {t x : List ℕ} (l : List ℕ) {m : ℕ} (a : BuildAsks
               r₃ ≡ true → {tk : ℕ} → Read16 (temporaries_in x) tk → {s' x' f' i' l' : List ℕ} → s' ≡ release e m (marks_in x) →
               f' ≡ write o.first 0 (steps_bytes (listed which.First)) → i' ≡ write o.i 0 (steps_bytes (listed which.I)) →
               l' ≡ write o.last 0 (steps_bytes (listed which.Last)) → x' ≡ stored_in x (mark_bytes (marks_of s')) t 0 0 0 tk →
-              TellsBuilt F answer x l o x' (lists f' i' l') (built.Done ak vi vl)
+              TellsBuilt F answer x l o x' (lists f' i' l') (Ok (record { first = ak; i = vi; last = vl }))
           all-built g₃ {tk} rt {s'} {x'} {f'} {i'} {l'} p q₁ q₂ q₃ q =
               let fit : fits_all o (segment_said F (said x l)) ≡ true = fits-is ∙ rw (sym h₁ ∙ g₁, sym h₂ ∙ g₂, sym h₃ ∙ g₃) in
               let yes : answer ≡ done S = ap (λ z. cond z (done (segment_said F (said x l))) (refused Refusal.full none)) fit ∙ ap done segment-is in
               let ctx : x' ≡ stored_in x (mark_bytes (after_said F (said x l)).marks) t 0 0 0 (temporaries_in x) = q ∙ rw (p, marks_are, rt.is) in
-              let sz : built_says (built.Done ak vi vl) ≡ done (sizes S)
+              let sz : built_says (Ok (record { first = ak; i = vi; last = vl })) ≡ done (sizes S)
               = ap (λ k. done (record { first = k; i = vi; last = vl })) (sym first-size)
               ∙ ap (λ k. done (record { first = length S.first; i = k; last = vl })) hi
               ∙ ap (λ k. done (record { first = length S.first; i = length S.i; last = k })) hl in
-              subst (λ (y : Answer RawSegment). TellsBuilt F y x l o x' (lists f' i' l') (built.Done ak vi vl)) (sym yes)
+              subst (λ (y : Answer RawSegment). TellsBuilt F y x l o x' (lists f' i' l') (Ok (record { first = ak; i = vi; last = vl }))) (sym yes)
               (record { says = sz; stands = (ctx, rw (q₁, q₂, q₃)) })
 
 -- the rest of a pool of which the table of nodes is no part
@@ -167,7 +167,7 @@ module _ (n e : List ℕ) (c : Counts) (x l : List ℕ) (o : Lists) {g : Bool} (
   abbrev Judged : List ℕ → Answer RawSegment → Type 0
   Judged ls a = (v : Answer (Unit {0})) × Verdict (pool_in n ls e c) [] v × (a ≡ tail ls v)
 
-  pub bad-context : g ≡ false → (ls : List ℕ) → JudgedBuild ls x o built.BadContext
+  pub bad-context : g ≡ false → (ls : List ℕ) → JudgedBuild ls x o (refusing refusal.Malformed)
   bad-context z ls =
       let a : Answer RawSegment = refused Refusal.malformed none in
       (a, (g, ex, subst (λ b. OrMalformed b a (Judged ls a)) (sym z) refl), record { says = refl; stands = (refl, refl) })
@@ -184,7 +184,7 @@ module _ (n e : List ℕ) (c : Counts) (x l : List ℕ) (o : Lists) {g : Bool} (
         TellsBuilt (forest (pool_in n ls e c)) (tail ls (done tt)) x l o x' o' y → JudgedBuild ls x' o' y
     judged-built ls j t = (tail ls (done tt), checked ls (tail ls (done tt)) (done tt, j, refl), t)
 
-module _ {u : Tables} {y : Answer Input} {r : Reading} (a : ReadInto u r y) (x l : List ℕ) (o : Lists) where
+module _ {u : Tables} {y : Answer Input} {r : Result Counts Refused} (a : ReadInto u r y) (x l : List ℕ) (o : Lists) where
   abbrev Given : List ℕ → Lists → Built → Type 0
   Given x' o' g = (z : Answer RawSegment) × Builds y x l o z × TellsBuilt (forest_read y) z x l o x' o' g
 
@@ -200,13 +200,10 @@ module _ {u : Tables} {y : Answer Input} {r : Reading} (a : ReadInto u r y) (x l
           let q : i ≡ i' = cc in
           rw (p, q)
 
-  pub malformed-built : {b : Blame} → r ≡ was.Malformed b → Given x o (built.Malformed b)
-  malformed-built {b} q = (refused Refusal.malformed (blame_answer b), unread (ap (held u) (sym q) ∙ a.answer), record { says = refl; stands = (refl, refl) })
+  pub refused-built : {f : Refused} → r ≡ Err f → Given x o (Err f)
+  refused-built {f} q = (refused (refusal_of f.refusal) (blame_of f.node), unread (ap (held u) (sym q) ∙ a.answer), record { says = refl; stands = (refl, refl) })
 
-  pub limit-built : {b : Blame} → r ≡ was.Full b → Given x o (built.Limit b)
-  limit-built {b} q = (refused Refusal.full (blame_answer b), unread (ap (held u) (sym q) ∙ a.answer), record { says = refl; stands = (refl, refl) })
-
-  module _ {c : Counts} (q : r ≡ was.Read c) where
+  module _ {c : Counts} (q : r ≡ Ok c) where
     expressions_count : length (input_in u c).expressions ≡ c.expressions
     unfolding input_in
     expressions_count = first-length (expression_in u.expressions) c.expressions

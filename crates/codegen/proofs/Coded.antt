@@ -19,14 +19,15 @@ use Rattle.requests.specs.Making.{steps_from, SizeIs, Room}
 use Rattle.requests.specs.Placing.{block_words, PlaceAsks}
 use Rattle.builds.specs.Raw.{start_of}
 use Rattle.builds.specs.Results.{find_block, inserted}
-use Rattle.builds.specs.declared.result.Found.{Found}
-use Rattle.builds.specs.declared.result.Found.TheVariants as found
+use Rattle.std.specs.Prelude as code
 use Rattle.context.specs.Context.{blocks_at, marks_at, cells, context_size}
 use Rattle.context.specs.Tables.{counter_bytes, with_counters, with_marks, with_blocks, Read16, MarksAsk, CountersAsk, StoreAsks}
 use Rattle.context.specs.Held.{stored_in}
 use Rattle.codegen.specs.Written.{mark_byte, mark_bytes, fits, fitting}
 use Rattle.codegen.specs.Committing.{step_bound, CommitAsks, Tells, copied, StoreAsked, PutAsked}
-use Rattle.codegen.specs.declared.commit.Served.TheVariants as served
+use Rattle.std.specs.Prelude.{Ok}
+use Rattle.kinds.specs.Answers.{refusing}
+use Rattle.kinds.specs.declared.refusal.Refusal.TheVariants as refusal
 use Rattle.codegen.proofs.Commits.{G, B, at, T, t', after}
 use Rattle.codegen.proofs.Ends.{fits_all_lem, plain-full, place-asks, make-room, plain-store, plain_done, no-block, result-full, put-asked, result-store, result-done}
 
@@ -72,7 +73,7 @@ module _ {w xs : List ℕ} {b : Rest} {js : List Job} {j s t x l : List ℕ} {n 
   code-room h g = rw (ra.is, rt.is) (make-room a z (rw ra.is at h) (rw rt.is at g))
 
   -- without a result
-  pub code-full : fits (length l) (ak + v) (tk + (v - n)) ≡ false → Tells (fitting (length l) (after a)) x l x l served.Full
+  pub code-full : fits (length l) (ak + v) (tk + (v - n)) ≡ false → Tells (fitting (length l) (after a)) x l x l (refusing refusal.Full)
   code-full h = plain-full a z (rw (ra.is, rt.is) at h)
 
   module _ (h : fits (length l) (ak + v) (tk + (v - n)) ≡ true) {t₁ : List ℕ} (e : t₁ ≡ write t bk (block_words (G a) js)) where
@@ -84,22 +85,22 @@ module _ {w xs : List ℕ} {b : Rest} {js : List Job} {j s t x l : List ℕ} {n 
 
     pub code-done :
         {x' l' : List ℕ} → l' ≡ write l (step_size * ak) (encoded (steps_from (G a) js tk)) →
-        x' ≡ stored_in x (mark_bytes (marks_of s)) t₁ 0 (bk + n) (ak + v) (tk + (v - n)) → Tells (fitting (length l) (after a)) x l x' l' served.Done
+        x' ≡ stored_in x (mark_bytes (marks_of s)) t₁ 0 (bk + n) (ak + v) (tk + (v - n)) → Tells (fitting (length l) (after a)) x l x' l' (Ok tt)
     code-done p q = plain_done a z (rw (ra.is, rt.is) at h) (rw (ra.is, rt.is) at p) (rw (e, rb.is, ra.is, rt.is) at q)
 
   -- with a result
-  module _ {t₁ : List ℕ} (u : t₁ ≡ write t bk (block_words (G a) js)) (e row : ℕ) (d : Reference) (low : row < 2) {cell : ℕ} (is : cell ≡ cell_of e row) {f : Found} (g : f ≡ find_block t₁ (bk + n) cell) where
+  module _ {t₁ : List ℕ} (u : t₁ ≡ write t bk (block_words (G a) js)) (e row : ℕ) (d : Reference) (low : row < 2) {cell : ℕ} (is : cell ≡ cell_of e row) {f : code.Option ℕ} (g : f ≡ find_block t₁ (bk + n) cell) where
     find-is : find_block t₁ (bk + n) cell ≡ find_block (t' a) (B a + n) cell
     find-is = rw (u, rb.is)
 
-    pub code-nothing : f ≡ found.Nothing → Tells (copied e row d (after a) then fitting (length l)) x l x l served.NoBlock
+    pub code-nothing : f ≡ code.None → Tells (copied e row d (after a) then fitting (length l)) x l x l (refusing refusal.NoBlock)
     code-nothing h = no-block a z e row d low is (sym find-is ∙ sym g ∙ h)
 
-    module _ {k : ℕ} (h : f ≡ found.At k) where
-      there : find_block (t' a) (B a + n) cell ≡ found.At k
+    module _ {k : ℕ} (h : f ≡ code.Some k) where
+      there : find_block (t' a) (B a + n) cell ≡ code.Some k
       there = sym find-is ∙ sym g ∙ h
 
-      pub code-over : fits (length l) (ak + v + 1) (tk + (v - n)) ≡ false → Tells (copied e row d (after a) then fitting (length l)) x l x l served.Full
+      pub code-over : fits (length l) (ak + v + 1) (tk + (v - n)) ≡ false → Tells (copied e row d (after a) then fitting (length l)) x l x l (refusing refusal.Full)
       code-over o = result-full a z e row d low is there (rw (ra.is, rt.is) at o)
 
       module _ (o : fits (length l) (ak + v + 1) (tk + (v - n)) ≡ true) where
@@ -115,6 +116,6 @@ module _ {w xs : List ℕ} {b : Rest} {js : List Job} {j s t x l : List ℕ} {n 
         pub code-copied :
             {l₁ t₂ x' l' : List ℕ} → l₁ ≡ write l (step_size * ak) (encoded (steps_from (G a) js tk)) → t₂ ≡ set t₁ k (get_or t₁ k 0 + 1024) →
             l' ≡ inserted l₁ (start_of t₁ (suc k)) (ak + v) d → x' ≡ stored_in x (mark_bytes (marks_of s)) t₂ 0 (bk + n) (ak + v + 1) (tk + (v - n)) →
-            Tells (copied e row d (after a) then fitting (length l)) x l x' l' served.Done
+            Tells (copied e row d (after a) then fitting (length l)) x l x' l' (Ok tt)
         code-copied p q m y =
             result-done a z e row d low is there (rw (ra.is, rt.is) at o) (rw (p, u, rb.is, ra.is, rt.is) at m) (rw (q, u, rb.is, ra.is, rt.is) at y)

@@ -28,13 +28,15 @@ use Rattle.builds.specs.Raw.{RawBlock, steps_in, start_of, records_from, raw_blo
 use Rattle.builds.specs.Starts.{start-next, start-le}
 use Rattle.builds.specs.Results.{find_block, inserted}
 use Rattle.builds.specs.Copies.{find-here, copy-nowhere, copy-put, copy-steps}
-use Rattle.builds.specs.declared.result.Found.TheVariants as found
+use Rattle.std.specs.Prelude as code
 use Rattle.context.specs.Context.{cells}
 use Rattle.context.specs.Held.{stored_in}
 use Rattle.codegen.specs.Said.{Said}
 use Rattle.codegen.specs.Written.{mark_bytes, fits, fitting, ListWith, raw-steps, stored-with, steps-with}
 use Rattle.codegen.specs.Committing.{CommitAsks, Tells, copied, StoreAsked, PutAsked}
-use Rattle.codegen.specs.declared.commit.Served.TheVariants as served
+use Rattle.std.specs.Prelude.{Ok}
+use Rattle.kinds.specs.Answers.{refusing}
+use Rattle.kinds.specs.declared.refusal.Refusal.TheVariants as refusal
 use Rattle.codegen.proofs.Commits.{G, B, at, T, t', after, sound, full, full', steps-after, counter-after, added, longer-steps, some-step}
 
 -- ── lists ────────────────────────────────────────────────────────────────────
@@ -90,9 +92,9 @@ module _ {w xs : List ℕ} {b : Rest} {js : List Job} {j s t x l : List ℕ} {n 
   pub fits_are : fits (length l) (length (every (after a).blocks)) (after a).counter ≡ fits (length l) steps counter
   fits_are = rw (steps_are, counter_are)
 
-  pub plain-full : fits (length l) steps counter ≡ false → Tells (fitting (length l) (after a)) x l x l served.Full
+  pub plain-full : fits (length l) steps counter ≡ false → Tells (fitting (length l) (after a)) x l x l (refusing refusal.Full)
   plain-full h =
-      subst (λ (y : Answer Said). Tells y x l x l served.Full) (sym (ap (λ q. cond q (done (after a)) (refused Refusal.full none)) (fits_are ∙ h)))
+      subst (λ (y : Answer Said). Tells y x l x l (refusing refusal.Full)) (sym (ap (λ q. cond q (done (after a)) (refused Refusal.full none)) (fits_are ∙ h)))
       (record { says = refl; stands = (refl, refl) })
 
   pub place-asks : PlaceAsks w xs b js j t n (B a)
@@ -153,7 +155,7 @@ module _ {w xs : List ℕ} {b : Rest} {js : List Job} {j s t x l : List ℕ} {n 
 
   pub plain_done :
       fits (length l) steps counter ≡ true → {x' l' : List ℕ} → l' ≡ list_after →
-      x' ≡ stored_in x (mark_bytes (marks_of s)) (t' a) 0 (B a + n) steps counter → Tells (fitting (length l) (after a)) x l x' l' served.Done
+      x' ≡ stored_in x (mark_bytes (marks_of s)) (t' a) 0 (B a + n) steps counter → Tells (fitting (length l) (after a)) x l x' l' (Ok tt)
   plain_done h {x'} {l'} e q =
       let f = fits_all_lem (length l) steps counter h in
       let S : Said = record { marks = marks_of s; blocks = raw_blocks (t' a) list_after (B a + n); counter = counter } in
@@ -164,8 +166,8 @@ module _ {w xs : List ℕ} {b : Rest} {js : List Job} {j s t x l : List ℕ} {n 
       let g : ListWith l S list_after
       = steps-with x (t' a) list_after (B a + n) counter (marks_of s) table-few l (write-length l (step_size * at a) _)
       (rw start-after (drop_past l (step_size * at a) (encoded (steps_from (G a) js (T a))) (step_size * steps) (omega (arith, written-size)))) in
-      subst (λ (y : Answer Said). Tells y x l x' l' served.Done) (sym (ap (λ r. cond r (done (after a)) (refused Refusal.full none)) (fits_are ∙ h)))
-      (subst (λ (y : Said). Tells (done y) x l x' l' served.Done) (sym eq)
+      subst (λ (y : Answer Said). Tells y x l x' l' (Ok tt)) (sym (ap (λ r. cond r (done (after a)) (refused Refusal.full none)) (fits_are ∙ h)))
+      (subst (λ (y : Said). Tells (done y) x l x' l' (Ok tt)) (sym eq)
       (record { says = refl; stands = (c, subst (ListWith l S) (sym e) g) }))
 
   -- ── with a result ──────────────────────────────────────────────────────────
@@ -173,14 +175,14 @@ module _ {w xs : List ℕ} {b : Rest} {js : List Job} {j s t x l : List ℕ} {n 
     abbrev answer : Answer Said
     answer = copied e row d (after a) then fitting (length l)
 
-    pub no-block : find_block (t' a) (B a + n) cell ≡ found.Nothing → Tells answer x l x l served.NoBlock
+    pub no-block : find_block (t' a) (B a + n) cell ≡ code.None → Tells answer x l x l (refusing refusal.NoBlock)
     no-block h =
         let q : copy_into e row d (after a).blocks ≡ none
         = ap (copy_into e row d) ample-blocks ∙ copy-nowhere (t' a) ample_list (B a + n) e row d low (rw is at h) in
         rw q (record { says = refl; stands = (refl, refl) })
 
-    module _ {k : ℕ} (there : find_block (t' a) (B a + n) cell ≡ found.At k) where
-      at-cell : find_block (t' a) (B a + n) (cell_of e row) ≡ found.At k
+    module _ {k : ℕ} (there : find_block (t' a) (B a + n) cell ≡ code.Some k) where
+      at-cell : find_block (t' a) (B a + n) (cell_of e row) ≡ code.Some k
       at-cell = rw is at there
 
       pub below : k < B a + n
@@ -219,11 +221,11 @@ module _ {w xs : List ℕ} {b : Rest} {js : List Job} {j s t x l : List ℕ} {n 
             let c : length (every with_copy.blocks) ≡ steps + 1 = raw-steps t'' L' (B a + n) ∙ start-more in
             rw (copy_is, c, counter_are)
 
-      pub result-full : fits (length l) (steps + 1) counter ≡ false → Tells answer x l x l served.Full
+      pub result-full : fits (length l) (steps + 1) counter ≡ false → Tells answer x l x l (refusing refusal.Full)
       result-full h =
           let r : step_size * (steps + 1) ≤ length ample_list = omega (arith, write-length ample (step_size * at a) (encoded (steps_from (G a) js (T a))), ample-size) in
           let q : answer ≡ refused Refusal.full none = answer-is ample_list ample-blocks r ∙ rw h in
-          subst (λ (y : Answer Said). Tells y x l x l served.Full) (sym q) (record { says = refl; stands = (refl, refl) })
+          subst (λ (y : Answer Said). Tells y x l x l (refusing refusal.Full)) (sym q) (record { says = refl; stands = (refl, refl) })
 
       pub put-asked : fits (length l) (steps + 1) counter ≡ true → PutAsked (t' a) list_after k steps
       put-asked h =
@@ -254,7 +256,7 @@ module _ {w xs : List ℕ} {b : Rest} {js : List Job} {j s t x l : List ℕ} {n 
 
       pub result-done :
           fits (length l) (steps + 1) counter ≡ true → {x' l' : List ℕ} → l' ≡ inserted list_after (start_of (t' a) (suc k)) steps d →
-          x' ≡ stored_in x (mark_bytes (marks_of s)) t'' 0 (B a + n) (steps + 1) counter → Tells answer x l x' l' served.Done
+          x' ≡ stored_in x (mark_bytes (marks_of s)) t'' 0 (B a + n) (steps + 1) counter → Tells answer x l x' l' (Ok tt)
       result-done h {x'} {l'} g q =
           let f = fits_all_lem (length l) (steps + 1) counter h in
           let o : step_size * (steps + 1) ≤ length list_after = omega (arith, f.list, write-length l (step_size * at a) (encoded (steps_from (G a) js (T a)))) in
@@ -272,4 +274,4 @@ module _ {w xs : List ℕ} {b : Rest} {js : List Job} {j s t x l : List ℕ} {n 
           ∙ drop_past l (step_size * at a) (encoded (steps_from (G a) js (T a))) (step_size * (steps + 1)) (omega (arith, written-size)) in
           let r : ListWith l S l₂ = steps-with x t'' l₂ (B a + n) counter (marks_of s) few l size (rw start-more past) in
           let y : answer ≡ done S = answer-is list_after is-after o ∙ rw h (ap (λ m. done (record { marks = marks_of s; blocks = raw_blocks t'' l₂ (B a + n); counter = m })) counter_are) in
-          subst (λ (p : Answer Said). Tells p x l x' l' served.Done) (sym y) (record { says = refl; stands = (c, subst (ListWith l S) (sym g) r) })
+          subst (λ (p : Answer Said). Tells p x l x' l' (Ok tt)) (sym y) (record { says = refl; stands = (c, subst (ListWith l S) (sym g) r) })

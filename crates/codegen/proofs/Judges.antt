@@ -15,13 +15,15 @@ use Rattle.meaning.specs.Generation.{Result, Request}
 use Rattle.meaning.specs.Demand3.{NoResult}
 use Rattle.meaning.proofs.Laws.Tests.{done-same, done-not-refused, and_left, and_right}
 use Rattle.kinds.specs.Kinds.{is_result}
-use Rattle.frames.specs.Order.{Input, blame_answer}
+use Rattle.std.specs.Prelude.{Ok, Err}
+use Rattle.std.specs.Prelude as std
+use Rattle.kinds.specs.Answers.{refusal_of, blame_of, refusing}
+use Rattle.kinds.specs.declared.refusal.Refusal.TheVariants as refusal
+use Rattle.kinds.specs.declared.refusal.Refused.{Refused}
+use Rattle.frames.specs.Order.{Input}
 use Rattle.frames.specs.Tables.{Tables, input_in, expression_in, request_in}
 use Rattle.frames.specs.Packing.{first-length}
 use Rattle.frames.specs.declared.count.Counts.{Counts}
-use Rattle.frames.specs.declared.count.Blame.{Blame}
-use Rattle.frames.specs.declared.count.Reading.{Reading}
-use Rattle.frames.specs.declared.count.Reading.TheVariants as was
 use Rattle.frames.specs.Reading.{held}
 use Rattle.pool.specs.Pool.{Pool}
 use Rattle.pool.specs.Trees.{forest}
@@ -38,11 +40,9 @@ use Rattle.requests.specs.Reads.{ReadInto, read_is, pool-is, requests_are}
 use Rattle.context.specs.Context.{Good, Exactly}
 use Rattle.codegen.specs.Said.{Said, said}
 use Rattle.codegen.specs.Results.{result_of, asking, result_good, no_result, asking-none}
-use Rattle.codegen.specs.Committing.{served_says, Tells}
+use Rattle.codegen.specs.Committing.{Served, served_says, Tells}
 use Rattle.codegen.specs.Serving.{OrMalformed, served_on, Answered, Serves, ServeAsks}
 use Rattle.codegen.specs.declared.asked.Wanted.{Wanted}
-use Rattle.codegen.specs.declared.commit.Served.{Served}
-use Rattle.codegen.specs.declared.commit.Served.TheVariants as served
 
 -- ── asking for a result or for none ──────────────────────────────────────────
 module _ (w : Wanted) (count : ℕ) where
@@ -94,7 +94,7 @@ module _ (n e r : List ℕ) (c : Counts) (ask : WholeAsked n e r c) (w : Wanted)
   Rest' ls a =
       (g : Bool) × Exactly g (Good x c.expressions (length l)) × OrMalformed g a ((v : Answer (Unit {0})) × Verdict (pool_in n ls e c) [] v × (a ≡ tail ls v))
 
-  pub bad-result : {v : Bool} → v ≡ result_good w.kind w.id c.requests → v ≡ false → (ls : List ℕ) → Judged ls x l served.BadResult
+  pub bad-result : {v : Bool} → v ≡ result_good w.kind w.id c.requests → v ≡ false → (ls : List ℕ) → Judged ls x l (refusing refusal.Malformed)
   bad-result h o ls =
       let a : Answer Said = refused Refusal.malformed none in
       (a, subst (λ b. OrMalformed b a (Rest' ls a)) (sym (sym h ∙ o)) refl, record { says = refl; stands = (refl, refl) })
@@ -103,7 +103,7 @@ module _ (n e r : List ℕ) (c : Counts) (ask : WholeAsked n e r c) (w : Wanted)
     checked : (ls : List ℕ) (a : Answer Said) → Rest' ls a → Answered (pool_in n ls e c) (requests_in r c.requests) c.expressions c.requests w x l a
     checked ls a t = subst (λ b. OrMalformed b a (Rest' ls a)) (sym (sym h ∙ o)) t
 
-    pub bad-context : g ≡ false → (ls : List ℕ) → Judged ls x l served.BadContext
+    pub bad-context : g ≡ false → (ls : List ℕ) → Judged ls x l (refusing refusal.Malformed)
     bad-context z ls =
         let a : Answer Said = refused Refusal.malformed none in
         let P : Type 0 = (u : Answer (Unit {0})) × Verdict (pool_in n ls e c) [] u × (a ≡ tail ls u) in
@@ -129,7 +129,7 @@ module _ (n e r : List ℕ) (c : Counts) (ask : WholeAsked n e r c) (w : Wanted)
       judged-served ls j t = (tail ls (done tt), checked ls (tail ls (done tt)) (good-context ls (tail ls (done tt)) (done tt, j, refl)), t)
 
 -- ── what was read ────────────────────────────────────────────────────────────
-module _ {u : Tables} {y : Answer Input} {r : Reading} (a : ReadInto u r y) (w : Wanted) (x l : List ℕ) where
+module _ {u : Tables} {y : Answer Input} {r : std.Result Counts Refused} (a : ReadInto u r y) (w : Wanted) (x l : List ℕ) where
   abbrev Given : List ℕ → List ℕ → Served → Type 0
   Given x' l' g = (z : Answer Said) × Serves y w x l z × Tells z x l x' l' g
 
@@ -145,13 +145,10 @@ module _ {u : Tables} {y : Answer Input} {r : Reading} (a : ReadInto u r y) (w :
           let q : o ≡ o' = cc in
           rw (p, q)
 
-  pub malformed-served : {b : Blame} → r ≡ was.Malformed b → Given x l (served.Malformed b)
-  malformed-served {b} q = (refused Refusal.malformed (blame_answer b), unread (ap (held u) (sym q) ∙ a.answer), record { says = refl; stands = (refl, refl) })
+  pub refused-served : {f : Refused} → r ≡ Err f → Given x l (Err f)
+  refused-served {f} q = (refused (refusal_of f.refusal) (blame_of f.node), unread (ap (held u) (sym q) ∙ a.answer), record { says = refl; stands = (refl, refl) })
 
-  pub limit-served : {b : Blame} → r ≡ was.Full b → Given x l (served.Limit b)
-  limit-served {b} q = (refused Refusal.full (blame_answer b), unread (ap (held u) (sym q) ∙ a.answer), record { says = refl; stands = (refl, refl) })
-
-  module _ {c : Counts} (q : r ≡ was.Read c) where
+  module _ {c : Counts} (q : r ≡ Ok c) where
     expressions_count : length (input_in u c).expressions ≡ c.expressions
     unfolding input_in
     expressions_count = first-length (expression_in u.expressions) c.expressions

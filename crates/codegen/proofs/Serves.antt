@@ -19,10 +19,15 @@ use Rattle.meaning.specs.Asking.{both, ask_one, ask_all, ask-snoc}
 use Rattle.meaning.specs.Holding.{result_allowed, all-asks, last-asks}
 use Rattle.meaning.proofs.Laws.Once.{Chain}
 use Rattle.meaning.proofs.Laws.Tests.{then-done, done-same, done-not-refused, true-false}
+use Rattle.std.specs.Prelude.{Ok, Err}
+use Rattle.std.specs.Prelude as std
+use Rattle.kinds.specs.Answers.{refusing}
 use Rattle.kinds.specs.Kinds.{is_result}
 use Rattle.kinds.specs.Write.{write}
 use Rattle.kinds.specs.References.{plain_ref}
 use Rattle.kinds.specs.declared.reference.Reference.{Reference}
+use Rattle.kinds.specs.declared.refusal.Refusal.TheVariants as refusal
+use Rattle.kinds.specs.declared.refusal.Refused.{Refused}
 use Rattle.frames.specs.Tables.{request_in, first}
 use Rattle.frames.specs.declared.rest.Request as frame
 use Rattle.pool.specs.Trees.{forest}
@@ -33,10 +38,7 @@ use Rattle.requests.specs.Planning.{request_at, requests_in, Adds, Says, PlanAsk
 use Rattle.requests.specs.Last.{MarkedBefore, LastSays}
 use Rattle.requests.specs.Making.{E}
 use Rattle.requests.specs.Jobs.{each_first, jobs-ask, jobs-there, jobs-once}
-use Rattle.requests.specs.declared.plan.Plan.{Plan}
-use Rattle.requests.specs.declared.plan.Plan.TheVariants as plan
 use Rattle.requests.specs.declared.last.LastPlan.{LastPlan}
-use Rattle.requests.specs.declared.last.LastPlan.TheVariants as last
 use Rattle.context.specs.Context.{cells, blocks_in, steps_in, temporaries_in, Good}
 use Rattle.context.specs.Tables.{marks_in, words_in, MarksAsk, LoadAsks}
 use Rattle.context.specs.Held.{loaded-held, good-sound}
@@ -44,10 +46,8 @@ use Rattle.codegen.specs.Said.{Said, said, adding, sayings, sayings_lawful, copy
 use Rattle.codegen.specs.Results.{result_from, result_of, asking, kind-of}
 use Rattle.codegen.specs.declared.asked.Wanted.{Wanted}
 use Rattle.codegen.specs.Written.{fitting}
-use Rattle.codegen.specs.Committing.{served_says, Tells, no_words, CommitAsks, after_jobs, copied}
+use Rattle.codegen.specs.Committing.{Served, served_says, Tells, no_words, CommitAsks, after_jobs, copied}
 use Rattle.codegen.specs.Serving.{served_on, ServeAsks}
-use Rattle.codegen.specs.declared.commit.Served.{Served}
-use Rattle.codegen.specs.declared.commit.Served.TheVariants as served
 use Rattle.codegen.specs.Pigeons.{table-room}
 
 pub refusal-tells : {k : Refusal} {o : Option ℕ} (a : Answer Said) (x l : List ℕ) (g : Served) → served_says g ≡ refused k o → a ≡ refused k o → Tells a x l x l g
@@ -114,7 +114,7 @@ module _ (F : Forest) (r : List ℕ) (count : ℕ) (x l : List ℕ) where
   plain-planned h = asked_is ∙ rw h
 
 -- what a plan says, by its case
-pub told : (y : Answer Asked) (s' j j' : List ℕ) (n : ℕ) (p q : Plan) → Says y s' j j' n p → p ≡ q → Says y s' j j' n q
+pub told : (y : Answer Asked) (s' j j' : List ℕ) (n : ℕ) (p q : std.Result ℕ Refused) → Says y s' j j' n p → p ≡ q → Says y s' j j' n q
 told y s' j j' n p q g e = subst (Says y s' j j' n) e g
 
 module _ {n e : List ℕ} {b : Rest} {A : Acyclic (forest (pool_of n b))} {r x l : List ℕ} {m count : ℕ} (a : ServeAsks n e b A r x l m count) {s : List ℕ} (load : s ≡ marks_in x) where
@@ -124,21 +124,18 @@ module _ {n e : List ℕ} {b : Rest} {A : Acyclic (forest (pool_of n b))} {r x l
   marks_are : ask_all 2 H (requests_in r count) (marks_of (marks_in x)) ≡ ask_all 2 H (requests_in r count) (marks_of s)
   marks_are = ap (λ (u : List ℕ). ask_all 2 H (requests_in r count) (marks_of u)) (sym load)
 
-  module _ (s' j j' : List ℕ) (p : Plan) (g : Says (ask_all 2 H (requests_in r count) (marks_of s)) s' j j' 0 p) where
-    abbrev S : Plan → Type 0
+  module _ (s' j j' : List ℕ) (p : std.Result ℕ Refused) (g : Says (ask_all 2 H (requests_in r count) (marks_of s)) s' j j' 0 p) where
+    abbrev S : std.Result ℕ Refused → Type 0
     S = Says (ask_all 2 H (requests_in r count) (marks_of s)) s' j j' 0
 
-    pub plain-lost : p ≡ plan.NotThere → Tells (answer H r count x l) x l x l served.Lost
-    plain-lost q = refusal-tells (answer H r count x l) x l served.Lost refl (plain-refused H r count x l (marks_are ∙ subst S q g))
+    pub plain-stopped : {f : Refused} → p ≡ Err f → Tells (answer H r count x l) x l x l (Err f)
+    plain-stopped {f} q = refusal-tells (answer H r count x l) x l (Err f) refl (plain-refused H r count x l (marks_are ∙ (subst S q g).0))
 
-    pub plain-double : {i : ℕ} → p ≡ plan.DoublePrime i → Tells (answer H r count x l) x l x l (served.DoublePrime i)
-    plain-double {i} q = refusal-tells (answer H r count x l) x l (served.DoublePrime i) refl (plain-refused H r count x l (marks_are ∙ subst S q g))
-
-    pub planned : {k : ℕ} → p ≡ plan.Jobs k → Adds (ask_all 2 H (requests_in r count) (marks_of s)) s' j j' 0 k
+    pub planned : {k : ℕ} → p ≡ Ok k → Adds (ask_all 2 H (requests_in r count) (marks_of s)) s' j j' 0 k
     planned q = subst S q g
 
     pub plain-served :
-        {k : ℕ} (q : p ≡ plan.Jobs k) {x' l' : List ℕ} {v : Served} →
+        {k : ℕ} (q : p ≡ Ok k) {x' l' : List ℕ} {v : Served} →
         Tells (fitting (length l) (after_jobs (E n e b) (planned q).jobs (marks_of s') (said x l))) x l x' l' v → Tells (answer H r count x l) x l x' l' v
     plain-served q {x'} {l'} {v} t = subst (λ (y : Answer Said). Tells y x l x' l' v) (sym (plain-planned H r count x l (marks_are ∙ (planned q).is))) t
 
@@ -267,30 +264,27 @@ module _ {n e : List ℕ} {b : Rest} {A : Acyclic (forest (pool_of n b))} {r x l
   abbrev all_asked : Answer Asked
   all_asked = ask_all 2 I (requests_in r (k + 1)) (marks_of s)
 
-  module _ (s' j j' : List ℕ) (p : LastPlan) (g : LastSays (MarkedBefore I r k s) all_asked s' j j' 0 p) where
-    abbrev L : LastPlan → Type 0
+  module _ (s' j j' : List ℕ) (p : std.Result LastPlan Refused) (g : LastSays (MarkedBefore I r k s) all_asked s' j j' 0 p) where
+    abbrev L : std.Result LastPlan Refused → Type 0
     L = LastSays (MarkedBefore I r k s) all_asked s' j j' 0
 
-    pub result-lost : p ≡ last.NotThere → Tells wants x l x l served.Lost
-    result-lost q = refusal-tells wants x l served.Lost refl (wants_is ∙ wanted-refused I r k x l kd w.id (loaded-is (k + 1) ∙ subst L q g))
+    pub result-stopped : {f : Refused} → p ≡ Err f → Tells wants x l x l (Err f)
+    result-stopped {f} q = refusal-tells wants x l (Err f) refl (wants_is ∙ wanted-refused I r k x l kd w.id (loaded-is (k + 1) ∙ (subst L q g).0))
 
-    pub result-double : {i : ℕ} → p ≡ last.DoublePrime i → Tells wants x l x l (served.DoublePrime i)
-    result-double {i} q = refusal-tells wants x l (served.DoublePrime i) refl (wants_is ∙ wanted-refused I r k x l kd w.id (loaded-is (k + 1) ∙ subst L q g))
-
-    module _ {i : ℕ} {marked : Bool} (q : p ≡ last.Jobs i marked) where
-      pub last-planned : Adds all_asked s' j j' 0 i
+    module _ {y : LastPlan} (q : p ≡ Ok y) where
+      pub last-planned : Adds all_asked s' j j' 0 y.jobs
       last-planned = (subst L q g).0
 
-      before : MarkedBefore I r k s marked
+      before : MarkedBefore I r k s y.marked
       before = (subst L q g).1
 
-      module _ (f : frame.Request) (h : f ≡ request_in r k) {v : Bool} (o : v ≡ (marked || eqb f.prime 0)) where
+      module _ (f : frame.Request) (h : f ≡ request_in r k) {v : Bool} (o : v ≡ (y.marked || eqb f.prime 0)) where
         allowed-is : (before.before.marks (request_at r k).expression (request_at r k).row || eqb (request_at r k).row 0) ≡ v
-        allowed-is = rw (← before.marked) (ap (λ (z : frame.Request). marked || eqb z.prime 0) (sym h)) ∙ sym o
+        allowed-is = rw (← before.marked) (ap (λ (z : frame.Request). y.marked || eqb z.prime 0) (sym h)) ∙ sym o
 
-        pub result-primed : v ≡ false → Tells wants x l x l served.NoPrimedMark
+        pub result-primed : v ≡ false → Tells wants x l x l (refusing refusal.NoPrimedMark)
         result-primed z =
-            refusal-tells wants x l served.NoPrimedMark refl
+            refusal-tells wants x l (refusing refusal.NoPrimedMark) refl
             (wants_is ∙ wanted-primed I r k x l kd w.id (loaded-is (k + 1) ∙ last-planned.is) before.before (loaded-is k ∙ before.is) (allowed-is ∙ z))
 
         pub result-cell : {cell : ℕ} → cell ≡ 2 * f.expression + f.prime → cell ≡ cell_of (request_in r k).expression (request_in r k).prime
@@ -300,11 +294,11 @@ module _ {n e : List ℕ} {b : Rest} {A : Acyclic (forest (pool_of n b))} {r x l
         row_low = a.fresh.in_rows k (omega arith)
 
         pub result-served :
-            v ≡ true → {x' l' : List ℕ} {y : Served} {d : Reference} → d ≡ plain_ref w.kind f.prime w.id →
-            Tells (copied (request_in r k).expression (request_in r k).prime d (after_jobs (E n e b) last-planned.jobs (marks_of s') (said x l)) then fitting (length l)) x l x' l' y →
-            Tells wants x l x' l' y
+            v ≡ true → {x' l' : List ℕ} {z' : Served} {d : Reference} → d ≡ plain_ref w.kind f.prime w.id →
+            Tells (copied (request_in r k).expression (request_in r k).prime d (after_jobs (E n e b) last-planned.jobs (marks_of s') (said x l)) then fitting (length l)) x l x' l' z' →
+            Tells wants x l x' l' z'
         unfolding kd
-        result-served z {x'} {l'} {y} {d} c t =
+        result-served z {x'} {l'} {z'} {d} c t =
             let st = after_jobs I last-planned.jobs (marks_of s') (said x l) in
             let ee = (request_in r k).expression in
             let row = (request_in r k).prime in
@@ -313,12 +307,12 @@ module _ {n e : List ℕ} {b : Rest} {A : Acyclic (forest (pool_of n b))} {r x l
             = wants_is
             ∙ wanted-allowed I r k x l kd w.id (loaded-is (k + 1) ∙ last-planned.is) before.before (loaded-is k ∙ before.is) (allowed-is ∙ z)
             ∙ ap (λ (u : Answer Said). u then fitting (length l)) (copy-into ee row w.kind w.id kd (kind-of w.kind is).2 st ∙ ap (λ (u : Reference). copied ee row u st) (sym dd)) in
-            subst (λ (u : Answer Said). Tells u x l x' l' y) (sym eq) t
+            subst (λ (u : Answer Said). Tells u x l x' l' z') (sym eq) t
 
 -- what was planned, whatever result is asked for
 pub planned-last :
     {n e : List ℕ} {b : Rest} {A : Acyclic (forest (pool_of n b))} {r x l : List ℕ} {m : ℕ} (k : ℕ) (a : ServeAsks n e b A r x l m (k + 1)) {s : List ℕ} → s ≡ marks_in x →
-    (s' j j' : List ℕ) (p : LastPlan) → LastSays (MarkedBefore (forest (pool_of n b)) r k s) (ask_all 2 (forest (pool_of n b)) (requests_in r (k + 1)) (marks_of s)) s' j j' 0 p →
-    {i : ℕ} {marked : Bool} → p ≡ last.Jobs i marked → Adds (ask_all 2 (forest (pool_of n b)) (requests_in r (k + 1)) (marks_of s)) s' j j' 0 i
+    (s' j j' : List ℕ) (p : std.Result LastPlan Refused) → LastSays (MarkedBefore (forest (pool_of n b)) r k s) (ask_all 2 (forest (pool_of n b)) (requests_in r (k + 1)) (marks_of s)) s' j j' 0 p →
+    {y : LastPlan} → p ≡ Ok y → Adds (ask_all 2 (forest (pool_of n b)) (requests_in r (k + 1)) (marks_of s)) s' j j' 0 y.jobs
 planned-last {n = n} {b = b} {r = r} k a {s} load s' j j' p g q =
     (subst (LastSays (MarkedBefore (forest (pool_of n b)) r k s) (ask_all 2 (forest (pool_of n b)) (requests_in r (k + 1)) (marks_of s)) s' j j' 0) q g).0

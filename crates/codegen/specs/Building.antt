@@ -1,13 +1,15 @@
 -- A BUILD OF A LENT CONTEXT: the answer to a pool, a context and its list, with room for three lists; and what stands in them and in the context after it.
 -- The order of refusals: 1 and 9 while reading, 1 of the context, 2, 3 and 4 of the pool, 9. Requests among the frames are read and not served.
 -- Assumes nothing: these are definitions.
-use Rattle.std.specs.Prelude.{ℕ, ◌*◌, ◌≤◌, ◌≡◌, Bool, ◌&&◌, cond, List, [], length, leb}
-use Rattle.std.proofs.Math.Option.{Option, none, some}
+use Rattle.std.specs.Prelude.{ℕ, ◌*◌, ◌≤◌, ◌≡◌, Bool, ◌&&◌, cond, List, [], length, leb, Result}
+use Rattle.std.proofs.Math.Option.{Option, none}
 use Rattle.meaning.specs.Refusals.{Refusal, Answer, done, refused, ◌then◌}
 use Rattle.meaning.specs.Trees.{Forest}
 use Rattle.kinds.specs.Write.{write}
 use Rattle.kinds.specs.Steps.{step_size, steps_bytes}
-use Rattle.frames.specs.Order.{Input, blame_answer, expression_limit}
+use Rattle.kinds.specs.Answers.{answer_of}
+use Rattle.kinds.specs.declared.refusal.Refused.{Refused}
+use Rattle.frames.specs.Order.{Input, expression_limit}
 use Rattle.frames.specs.Reading.{reading}
 use Rattle.frames.specs.declared.count.Counts.{Counts}
 use Rattle.pool.specs.Pool.{Pool}
@@ -22,8 +24,7 @@ use Rattle.context.specs.Context.{Good, Exactly}
 use Rattle.codegen.specs.Said.{Said, said, segment_said, after_said}
 use Rattle.codegen.specs.Written.{context_with}
 use Rattle.codegen.specs.Serving.{OrMalformed}
-use Rattle.codegen.specs.declared.build.Built.{Built}
-use Rattle.codegen.specs.declared.build.Built.TheVariants as built
+use Rattle.codegen.specs.declared.build.Sizes.{Sizes}
 
 -- ── the answer ───────────────────────────────────────────────────────────────
 -- the first, i and last lists, or the bytes lent for them
@@ -61,25 +62,16 @@ StandsBuilt E (done s) x l o x' o' = (x' ≡ context_with x (after_said E (said 
 StandsBuilt E (refused k i) x l o x' o' = (x' ≡ x) × (o' ≡ o)
 
 -- how many steps each has
-pub record Sizes : Type 0 where
-  pub first : ℕ
-  pub i : ℕ
-  pub last : ℕ
-
 abbrev pub sizes : RawSegment → Sizes
 sizes s = record { first = length s.first; i = length s.i; last = length s.last }
 
--- WHAT Built SAYS
+-- the answer to a build
+abbrev pub Built : Type 0
+Built = Result Sizes Refused
+
+-- WHAT IT SAYS
 abbrev pub built_says : Built → Answer Sizes
-built_says (built.Malformed b) = refused Refusal.malformed (blame_answer b)
-built_says (built.Limit b) = refused Refusal.full (blame_answer b)
-built_says built.BadContext = refused Refusal.malformed none
-built_says (built.ChildCount i) = refused Refusal.child_count (some i)
-built_says (built.NotThere i) = refused Refusal.not_there (some i)
-built_says built.Lost = refused Refusal.not_there none
-built_says (built.Cycle i) = refused Refusal.cycle (some i)
-built_says built.Full = refused Refusal.full none
-built_says (built.Done f i l) = done (record { first = f; i = i; last = l })
+built_says r = answer_of r
 
 pub record TellsBuilt (E : Forest) (a : Answer RawSegment) (x l : List ℕ) (o : Lists) (x' : List ℕ) (o' : Lists) (r : Built) : Type 0 where
   pub says : built_says r ≡ (a then λ s. done (sizes s))

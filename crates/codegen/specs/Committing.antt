@@ -1,15 +1,15 @@
 -- Blocks that were planned, committed to a context and its list: added after those that stand, and a result copied; all or nothing.
 -- Assumes nothing: these are definitions.
-use Rattle.std.specs.Prelude.{ℕ, suc, ◌+◌, ◌*◌, ◌/◌, ◌<◌, ◌≤◌, ◌≡◌, List, length, get_or, replicate}
-use Rattle.std.proofs.Math.Option.{none, some}
-use Rattle.meaning.specs.Refusals.{Refusal, Answer, done, refused, ◌then◌}
+use Rattle.std.specs.Prelude.{ℕ, suc, ◌+◌, ◌*◌, ◌/◌, ◌<◌, ◌≤◌, ◌≡◌, List, length, get_or, replicate, Result}
+use Rattle.meaning.specs.Refusals.{Answer, ◌then◌}
 use Rattle.meaning.specs.Trees.{Forest}
 use Rattle.meaning.specs.Order.{Marks, Job}
 use Rattle.meaning.specs.Holding.{mapped}
 use Rattle.kinds.specs.Write.{write}
 use Rattle.kinds.specs.Steps.{step_size}
+use Rattle.kinds.specs.Answers.{answer_of}
 use Rattle.kinds.specs.declared.reference.Reference.{Reference}
-use Rattle.frames.specs.Order.{blame_answer}
+use Rattle.kinds.specs.declared.refusal.Refused.{Refused}
 use Rattle.starkinfo_codegen.specs.Emitting.{Rest, RowFits}
 use Rattle.starkinfo_codegen.specs.Ordering.{cell_of, marks_of}
 use Rattle.requests.specs.Making.{JobsAsk, E}
@@ -19,24 +19,14 @@ use Rattle.context.specs.Context.{cells, context_size, blocks_in, Good}
 use Rattle.context.specs.Tables.{words_in}
 use Rattle.codegen.specs.Said.{Said, said, adding, with_blocks}
 use Rattle.codegen.specs.Written.{fitting, Stands}
-use Rattle.codegen.specs.declared.commit.Served.{Served}
-use Rattle.codegen.specs.declared.commit.Served.TheVariants as served
 
--- WHAT Served SAYS
+-- the answer to requests
+abbrev pub Served : Type 0
+Served = Result (Unit {0}) Refused
+
+-- WHAT IT SAYS
 abbrev pub served_says : Served → Answer (Unit {0})
-served_says (served.Malformed b) = refused Refusal.malformed (blame_answer b)
-served_says (served.Limit b) = refused Refusal.full (blame_answer b)
-served_says served.BadResult = refused Refusal.malformed none
-served_says served.BadContext = refused Refusal.malformed none
-served_says (served.ChildCount i) = refused Refusal.child_count (some i)
-served_says (served.NotThere i) = refused Refusal.not_there (some i)
-served_says served.Lost = refused Refusal.not_there none
-served_says (served.Cycle i) = refused Refusal.cycle (some i)
-served_says (served.DoublePrime i) = refused Refusal.double_prime (some i)
-served_says served.NoPrimedMark = refused Refusal.no_primed_mark none
-served_says served.NoBlock = refused Refusal.no_block none
-served_says served.Full = refused Refusal.full none
-served_says served.Done = done tt
+served_says r = answer_of r
 
 -- that it was done, or its refusal
 abbrev pub outcome : {A : Type 0} → Answer A → Answer (Unit {0})

@@ -23,9 +23,8 @@ use Rattle.context.specs.Context.{Good, Exactly}
 use Rattle.codegen.specs.Said.{Said, said, serve_said}
 use Rattle.codegen.specs.Results.{result_of, asking, result_good}
 use Rattle.codegen.specs.Written.{fitting}
-use Rattle.codegen.specs.Committing.{Tells}
+use Rattle.codegen.specs.Committing.{Served, Tells}
 use Rattle.codegen.specs.declared.asked.Wanted.{Wanted}
-use Rattle.codegen.specs.declared.commit.Served.{Served}
 
 -- ── the answer ───────────────────────────────────────────────────────────────
 -- where b does not hold, a is refused as a malformed record; else P says what it is

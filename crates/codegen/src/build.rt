@@ -10,28 +10,24 @@ use builds::flags::mark_released;
 use context::check;
 use context::layout::{blocks_of, steps_of, temporaries_of};
 use context::load::{load_blocks, load_marks};
-use frames::count::{Blame, Counts, EXPRESSION_LIMIT, NODE_LIMIT, REQUEST_LIMIT, Reading};
+use frames::count::{Counts, EXPRESSION_LIMIT, NODE_LIMIT, REQUEST_LIMIT};
 use frames::read::fill;
 use frames::tables::NODE_WORDS;
+use kinds::refusal::{Refusal, Refused};
 use kinds::step::STEP_SIZE;
-use pool::admit::{Verdict, admit};
+use pool::admit::admit;
 use starkinfo_codegen::order::JOB_LIMIT;
 
-// How many steps each list has, or the refusal.
-#[derive(Clone, Copy)]
-pub enum Built {
-    Malformed(Blame),
-    Limit(Blame),
-    BadContext,
-    ChildCount(usize),
-    NotThere(usize),
-    Lost,
-    Cycle(usize),
-    Full,
-    Done { first: usize, i: usize, last: usize },
+// How many steps each list has.
+#[derive(Clone, Copy, Debug, PartialEq, Eq)]
+pub struct Sizes {
+    pub first: usize,
+    pub i: usize,
+    pub last: usize,
 }
 
-fn has_room(out: &[u8], steps: usize) -> bool
+// Whether a list has room for so many steps.
+pub fn list_fits(out: &[u8], steps: usize) -> bool
     requires { steps ≤ 65535 }
     ensures { result ≡ leb (step_size * steps) (length out.now) }
 {
@@ -47,7 +43,7 @@ fn build_context(
     i: &mut [u8],
     last: &mut [u8],
     m: usize,
-) -> Built
+) -> Result<Sizes, Refused>
     requires { BuildAsks context.old list.now m }
     ensures { ContextBuilt expressions.now context.old context.new list.now m (lists first.old i.old last.old) (lists first.new i.new last.new) result }
 {
@@ -60,25 +56,25 @@ fn build_context(
     let t = temporaries_of(context);
     let without_plain = list_size(&words, expressions, blocks, m, Which::I);
     let without_any = list_size(&words, expressions, blocks, m, Which::Last);
-    if !has_room(first, all) {
-        return Built::Full;
+    if !list_fits(first, all) {
+        return Err(Refusal::Full.into());
     }
-    if !has_room(i, without_plain) {
-        return Built::Full;
+    if !list_fits(i, without_plain) {
+        return Err(Refusal::Full.into());
     }
-    if !has_room(last, without_any) {
-        return Built::Full;
+    if !list_fits(last, without_any) {
+        return Err(Refusal::Full.into());
     }
     copy_list(list, &words, expressions, first, blocks, m, Which::First);
     copy_list(list, &words, expressions, i, blocks, m, Which::I);
     copy_list(list, &words, expressions, last, blocks, m, Which::Last);
     mark_released(expressions, &mut marks, m);
     store(context, &mut marks, &words, 0, 0, t);
-    Built::Done {
+    Ok(Sizes {
         first: all,
         i: without_plain,
         last: without_any,
-    }
+    })
 }
 
 fn build_read(
@@ -90,31 +86,16 @@ fn build_read(
     i: &mut [u8],
     last: &mut [u8],
     c: Counts,
-) -> Built
+) -> Result<Sizes, Refused>
     requires { (c.nodes ≤ node_limit) × (c.expressions ≤ expression_limit) }
     ensures { ReadBuilt nodes.now expressions.now context.old context.new list.now c (lists first.old i.old last.old) (lists first.new i.new last.new) result }
 {
     if !check::is_good(context, list.len(), c.expressions) {
-        return Built::BadContext;
+        return Err(Refusal::Malformed.into());
     }
     let no_table = [0u8; 0];
-    let admission = admit(nodes, expressions, &no_table, c.nodes, c.expressions);
-    let verdict = admission.verdict;
-    match verdict {
-        Verdict::ChildCount(k) => Built::ChildCount(k),
-        Verdict::NotThere(k) => Built::NotThere(k),
-        Verdict::LostRoot => Built::Lost,
-        Verdict::Cycle(k) => Built::Cycle(k),
-        Verdict::Admitted => build_context(
-            expressions,
-            context,
-            list,
-            first,
-            i,
-            last,
-            c.expressions,
-        ),
-    }
+    admit(nodes, expressions, &no_table, c.nodes, c.expressions)?;
+    build_context(expressions, context, list, first, i, last, c.expressions)
 }
 
 // A pool as frames, a context with its list, and room for three lists. Requests among the frames are not served.
@@ -125,22 +106,19 @@ pub fn build_code(
     first: &mut [u8],
     i: &mut [u8],
     last: &mut [u8],
-) -> Built
+) -> Result<Sizes, Refused>
     ensures { BuildGiven s.now context.old context.new list.now (lists first.old i.old last.old) (lists first.new i.new last.new) result }
 {
     let mut nodes = [0u64; NODE_WORDS];
     let mut literals = [0u64; NODE_LIMIT];
     let mut expressions = [0u64; EXPRESSION_LIMIT];
     let mut requests = [0u64; REQUEST_LIMIT];
-    match fill(
+    let c = fill(
         s,
         &mut nodes,
         &mut literals,
         &mut expressions,
         &mut requests,
-    ) {
-        Reading::Malformed(b) => Built::Malformed(b),
-        Reading::Full(b) => Built::Limit(b),
-        Reading::Read(c) => build_read(&nodes, &expressions, context, list, first, i, last, c),
-    }
+    )?;
+    build_read(&nodes, &expressions, context, list, first, i, last, c)
 }

@@ -6,11 +6,12 @@ ghost use Rattle.codegen.specs.Written.{fits};
 ghost use Rattle.codegen.specs.Committing.{step_bound, CommitAsked, PlainGiven, ResultGiven, PutAsked};
 
 use crate::store::store;
-use builds::result::{Found, find_block, grow, insert_copy, start_of};
+use builds::result::{find_block, grow, insert_copy, start_of};
 use context::layout::{blocks_of, steps_of, temporaries_of};
-use frames::count::{Blame, EXPRESSION_LIMIT};
+use frames::count::EXPRESSION_LIMIT;
 use frames::tables::NODE_WORDS;
 use kinds::reference::Reference;
+use kinds::refusal::{Refusal, Refused};
 use kinds::step::STEP_SIZE;
 use requests::generate::TEMPORARY_LIMIT;
 use requests::make::{make_all, size_all};
@@ -20,25 +21,8 @@ use starkinfo_codegen::order::JOB_LIMIT;
 // A number of a step, too, is below the limit of a temporary's.
 const STEP_LIMIT: usize = TEMPORARY_LIMIT;
 
-// The answer to requests: the refusal, with the node to blame where there is one, or that they were served.
-#[derive(Drop)]
-pub enum Served {
-    Malformed(Blame),
-    Limit(Blame),
-    BadResult,
-    BadContext,
-    ChildCount(usize),
-    NotThere(usize),
-    Lost,
-    Cycle(usize),
-    DoublePrime(usize),
-    NoPrimedMark,
-    NoBlock,
-    Full,
-    Done,
-}
-
-fn has_room(list: &[u8], steps: usize, temporaries: usize) -> bool
+// Whether a list has room for so many steps, and a counter for so many temporaries.
+pub fn has_room(list: &[u8], steps: usize, temporaries: usize) -> bool
     requires { steps ≤ step_bound }
     ensures { result ≡ fits (length list.now) steps temporaries }
 {
@@ -71,7 +55,7 @@ pub fn commit(
     context: &mut [u8],
     list: &mut [u8],
     n: usize,
-) -> Served
+) -> Result<(), Refused>
     requires { CommitAsked nodes.now expressions.now jobs.now marks.old words.old context.old list.old n }
     ensures { PlainGiven nodes.now expressions.now jobs.now marks.old words.old context.old context.new list.old list.new n result }
 {
@@ -80,7 +64,7 @@ pub fn commit(
     let t = temporaries_of(context);
     let steps = size_all(nodes, expressions, jobs, n);
     if !has_room(list, at + steps, t + (steps - n)) {
-        return Served::Full;
+        return Err(Refusal::Full.into());
     }
     place_all(nodes, expressions, jobs, words, n, blocks);
     make_all(nodes, expressions, jobs, list, n, at, t);
@@ -92,7 +76,7 @@ pub fn commit(
         at + steps,
         t + (steps - n),
     );
-    Served::Done
+    Ok(())
 }
 
 // The same, with a copy of the result of `cell` into `dest`.
@@ -107,7 +91,7 @@ pub fn commit_result(
     n: usize,
     cell: usize,
     dest: Reference,
-) -> Served
+) -> Result<(), Refused>
     requires { CommitAsked nodes.now expressions.now jobs.now marks.old words.old context.old list.old n }
     ensures { ResultGiven nodes.now expressions.now jobs.now marks.old words.old context.old context.new list.old list.new n cell dest result }
 {
@@ -116,23 +100,21 @@ pub fn commit_result(
     let t = temporaries_of(context);
     let steps = size_all(nodes, expressions, jobs, n);
     place_all(nodes, expressions, jobs, words, n, blocks);
-    match find_block(words, blocks + n, cell) {
-        Found::Nothing => Served::NoBlock,
-        Found::At(k) => {
-            if !has_room(list, at + steps + 1, t + (steps - n)) {
-                return Served::Full;
-            }
-            make_all(nodes, expressions, jobs, list, n, at, t);
-            put_result(words, list, k, at + steps, dest);
-            store(
-                context,
-                marks,
-                words,
-                blocks + n,
-                at + steps + 1,
-                t + (steps - n),
-            );
-            Served::Done
-        }
+    let Some(k) = find_block(words, blocks + n, cell) else {
+        return Err(Refusal::NoBlock.into());
+    };
+    if !has_room(list, at + steps + 1, t + (steps - n)) {
+        return Err(Refusal::Full.into());
     }
+    make_all(nodes, expressions, jobs, list, n, at, t);
+    put_result(words, list, k, at + steps, dest);
+    store(
+        context,
+        marks,
+        words,
+        blocks + n,
+        at + steps + 1,
+        t + (steps - n),
+    );
+    Ok(())
 }

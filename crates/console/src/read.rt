@@ -3,9 +3,10 @@ ghost use Rattle.std.specs.Prelude.{◌≤◌, length};
 ghost use Rattle.frames.specs.Tables.{tables};
 ghost use Rattle.console.specs.Reading.{ReadAsked, ReadGiven};
 
-use feed::feed::{Feeding, LINE_ROOM, Place, feed};
+use feed::feed::{LINE_ROOM, Place, feed};
 use frames::count::{EXPRESSION_LIMIT, NODE_LIMIT, REQUEST_LIMIT};
 use frames::tables::NODE_WORDS;
+use kinds::refusal::Refused;
 use std::io::Read;
 
 // More than a text has that is not refused before its end: 5,632 lines of at most 1,051 bytes.
@@ -22,7 +23,7 @@ pub fn read_all(
     literals: &mut [u64; NODE_LIMIT],
     expressions: &mut [u64; EXPRESSION_LIMIT],
     requests: &mut [u64; REQUEST_LIMIT],
-) -> Feeding
+) -> Result<Place, Refused>
     requires { ReadAsked line.old (tables nodes.old literals.old expressions.old requests.old) }
     ensures { ReadGiven result line.new (tables nodes.new literals.new expressions.new requests.new) }
 {
@@ -30,7 +31,7 @@ pub fn read_all(
     let mut place = Place::start();
     for turn in 0..CHUNKS {
         let n = read_full(input, &mut chunk);
-        match feed(
+        place = feed(
             &chunk[..n],
             place,
             line,
@@ -38,25 +39,15 @@ pub fn read_all(
             literals,
             expressions,
             requests,
-        ) {
-            Feeding::Malformed(b) => {
-                return Feeding::Malformed(b);
-            }
-            Feeding::Full(b) => {
-                return Feeding::Full(b);
-            }
-            Feeding::Fed(p) => {
-                place = p;
-            }
-        }
+        )?;
         if n < chunk.len() {
-            return Feeding::Fed(place);
+            return Ok(place);
         }
         if LINE_ROOM <= place.held {
-            return Feeding::Fed(place);
+            return Ok(place);
         }
     }
-    Feeding::Fed(place)
+    Ok(place)
 }
 
 // Reads until the buffer is full or the input ends, and answers how many bytes were put at its start. A read that fails counts as the end.

@@ -1,13 +1,16 @@
 -- Both lists by the first, which is planned and measured, and the second, which is made: the whole answer. Over plain variables.
 -- Assumes nothing.
 use Prim.Native.Nat.{ℕ, ◌-◌}
-use mathlib.Core.Path.{◌≡◌, refl, sym, ◌∙◌, ap}
+use mathlib.Core.Path.{◌≡◌, refl, sym, ◌∙◌, ap, subst}
 use mathlib.Core.Bool.{Bool, true, false, ◌&&◌, cond}
-use mathlib.Core.Option.{Option, none}
+use mathlib.Core.Option.{none}
 use mathlib.Core.List.{List, []}
 use native.Mathlib.Omega.{arith}
 use lib.ListN.{length}
 use lib.Dec.{leb}
+use Rattle.std.specs.Prelude.{Result, Ok, Err}
+use Rattle.kinds.specs.Answers.{refusal_of, blame_of}
+use Rattle.kinds.specs.declared.refusal.Refused.{Refused}
 use Rattle.meaning.specs.Refusals.{Refusal, Answer, done, refused, ◌then◌}
 use Rattle.meaning.proofs.Laws.Tests.{done-not-refused}
 use Rattle.pool.specs.Pool.{Pool}
@@ -17,32 +20,17 @@ use Rattle.context.specs.Context.{cells}
 use Rattle.codegen.specs.Said.{Said, said, segment_said}
 use Rattle.codegen.specs.Committing.{no_words}
 use Rattle.codegen.specs.Building as building
+use Rattle.codegen.specs.declared.build.Sizes as steps
 use Rattle.constraint_frames.specs.Extension.{bytes_of}
 use Rattle.constraint_lists.specs.Lists.{step3_said, step42ns_said, room_for, Written}
 use Rattle.constraint_lists.specs.Planned.{ListAsks}
-use Rattle.constraint_lists.specs.Measuring.{final_said}
+use Rattle.constraint_lists.specs.Measuring.{final_said, Measured}
 use Rattle.constraint_lists.specs.Writing.{WriteAsks, WriteAsked, WriteGiven}
-use Rattle.constraint_lists.specs.declared.measure.Measured.{Measured}
-use Rattle.constraint_build.specs.Both.{Lent, Both, Totals, fitting, made_says, Tells}
-use Rattle.constraint_build.specs.Committing.{rest_of, FitAsked, Fitted, SecondAsks, SecondGiven, fitting_second, TellsSecond, is_done}
+use Rattle.constraint_build.specs.Both.{Lent, Both, fitting, Tells}
+use Rattle.constraint_build.specs.Committing.{rest_of, FitAsked, Fitted, SecondAsks, SecondGiven, fitting_second, TellsSecond}
 use Rattle.constraint_build.specs.Making.{MakeAsks}
 use Rattle.constraint_build.specs.declared.answer.Made.{Made}
-use Rattle.constraint_build.specs.declared.answer.Made.TheVariants as made
 use Rattle.constraint_build.proofs.Fits.{words-of}
-
--- ---- what was made
-
-not_done : (y : Made) → is_done y ≡ false → (i : Refusal) × (o : Option ℕ) × (made_says y ≡ refused i o)
-not_done made.Lost e = (_, _, refl)
-not_done (made.DoublePrime i) e = (_, _, refl)
-not_done made.Full e = (_, _, refl)
-not_done (made.Done s b) e = absurd (let z : ◌≡◌ {A = ℕ} 0 1 = cc in omega arith)
-
-was_done : (y : Made) → is_done y ≡ true → (d : Totals) × (made_says y ≡ done d)
-was_done made.Lost e = absurd (let z : ◌≡◌ {A = ℕ} 0 1 = cc in omega arith)
-was_done (made.DoublePrime i) e = absurd (let z : ◌≡◌ {A = ℕ} 0 1 = cc in omega arith)
-was_done made.Full e = absurd (let z : ◌≡◌ {A = ℕ} 0 1 = cc in omega arith)
-was_done (made.Done s b) e = (_, refl)
 
 -- ---- both lists
 
@@ -89,8 +77,8 @@ module _ (u v : Lent) {w l x ms : List ℕ} {k m : ℕ} (a : MakeAsks w l x ms u
     abbrev on : Answer Said → Answer Both
     on y = y then λ s. S4 then λ t. fitting q (record { step3 = s; step42ns = t }) u v (length out)
 
-    pub refused-first : {i : Refusal} {n : Option ℕ} → S3 ≡ refused i n → (r : Made) → made_says r ≡ refused i n → Tells q (on S3) u v out u v out r
-    refused-first e r h = rw e (record { says = h; stands = (refl, refl, refl) })
+    pub refused-first : (f : Refused) → S3 ≡ refused (refusal_of f.refusal) (blame_of f.node) → Tells q (on S3) u v out u v out (Err f)
+    refused-first f e = rw e (record { says = refl; stands = (refl, refl, refl) })
 
     module _ {s t j : List ℕ} {n : ℕ} {r : Measured} (f : Fitted w x b [] ms u s t j m false n r) where
       abbrev T : Said
@@ -99,7 +87,7 @@ module _ (u v : Lent) {w l x ms : List ℕ} {k m : ℕ} (a : MakeAsks w l x ms u
       abbrev fits : Bool
       fits = room_for (forest q) (length u.list) u.lists T
 
-      abbrev z : building.Sizes
+      abbrev z : steps.Sizes
       z = building.sizes (segment_said (forest q) T)
 
       -- room for the second list and the frames
@@ -115,35 +103,36 @@ module _ (u v : Lent) {w l x ms : List ℕ} {k m : ℕ} (a : MakeAsks w l x ms u
       by : on S3 ≡ all S4
       by = ap on f.is
 
-      module _ {v' : Lent} {out' : List ℕ} {y : Made} where
-        of-refused : {i : Refusal} {o : Option ℕ} → made_says y ≡ refused i o → (c : Answer Said) → TellsSecond q z (second c) v out v' out' y → Tells q (all c) u v out u v' out' y
-        of-refused h (refused i o) g = record { says = g.says; stands = (refl, g.stands.0, g.stands.1) }
-        of-refused {i} {o} h (done c) g = go (fits && R c) g
-          where
-            go :
-                (d : Bool) → TellsSecond q z (cond d (done c) (refused Refusal.full none)) v out v' out' y →
-                Tells q (cond d (done (record { step3 = T; step42ns = c })) (refused Refusal.full none)) u v out u v' out' y
-            go true g = absurd (done-not-refused (sym g.says ∙ h))
-            go false g = record { says = g.says; stands = (refl, g.stands.0, g.stands.1) }
+      module _ {v' : Lent} {out' : List ℕ} {y : Result Made Refused} (g : SecondGiven w l x ms r v v' k m out out' y) where
+        told : {o : Result Made Refused} → y ≡ o → TellsSecond q z (second S4) v out v' out' o
+        told e = subst (TellsSecond q z (second S4) v out v' out') e (g fits z f.measures.says)
 
-        -- the second is refused, or there is no room
-        pub not_made : SecondGiven w l x ms r v v' k m out out' y → is_done y ≡ false → Tells q (on S3) u v out u v' out' y
-        not_made g e = rw by (of-refused (not_done y e).2 S4 (g fits z f.measures.says))
+        module _ {d : Refused} (e : y ≡ Err d) where
+          of-refused : (c : Answer Said) → TellsSecond q z (second c) v out v' out' (Err d) → Tells q (all c) u v out u v' out' (Err d)
+          of-refused (refused i o) g = record { says = g.says; stands = (refl, g.stands.0, g.stands.1) }
+          of-refused (done c) g = go (fits && R c) g
+            where
+              go :
+                  (b : Bool) → TellsSecond q z (cond b (done c) (refused Refusal.full none)) v out v' out' (Err d) →
+                  Tells q (cond b (done (record { step3 = T; step42ns = c })) (refused Refusal.full none)) u v out u v' out' (Err d)
+              go true g = absurd (done-not-refused (sym g.says))
+              go false g = record { says = g.says; stands = (refl, g.stands.0, g.stands.1) }
 
-        room : {d : Totals} → made_says y ≡ done d → (c : Answer Said) → TellsSecond q z (second c) v out v' out' y → fits ≡ true
-        room h (refused i o) g = absurd (done-not-refused (sym h ∙ g.says))
-        room {d} h (done c) g = go fits g
-          where
-            go : (e : Bool) → TellsSecond q z (cond (e && R c) (done c) (refused Refusal.full none)) v out v' out' y → e ≡ true
-            go true g = refl
-            go false g = absurd (done-not-refused (sym h ∙ g.says))
+          -- the second is refused, or there is no room
+          pub not_made : Tells q (on S3) u v out u v' out' (Err d)
+          not_made = rw by (of-refused S4 (told e))
 
-        module _ (g : SecondGiven w l x ms r v v' k m out out' y) (made_all : is_done y ≡ true) where
-          h : made_says y ≡ done (was_done y made_all).0
-          h = (was_done y made_all).1
+        module _ {d : Made} (e : y ≡ Ok d) where
+          room : (c : Answer Said) → TellsSecond q z (second c) v out v' out' (Ok d) → fits ≡ true
+          room (refused i o) g = absurd (done-not-refused g.says)
+          room (done c) g = go fits g
+            where
+              go : (b : Bool) → TellsSecond q z (cond (b && R c) (done c) (refused Refusal.full none)) v out v' out' (Ok d) → b ≡ true
+              go true g = refl
+              go false g = absurd (done-not-refused g.says)
 
           fit : fits ≡ true
-          fit = room h S4 (g fits z f.measures.says)
+          fit = room S4 (told e)
 
           write-asks : WriteAsks w x b f.jobs j s f.loaded t u.context u.list u.lists m n false
           write-asks = record {
@@ -155,17 +144,17 @@ module _ (u v : Lent) {w l x ms : List ℕ} {k m : ℕ} (a : MakeAsks w l x ms u
           pub write-asked : WriteAsked w x j s t u.context u.list u.lists m n false
           write-asked = (b, f.jobs, f.loaded, write-asks)
 
-          of-done : (c : Answer Said) → TellsSecond q z (second c) v out v' out' y → {u' : Lent} →
-              Written (forest q) u.context u.list u.lists T u'.context u'.list u'.lists → Tells q (all c) u v out u' v' out' y
-          of-done (refused i o) g e = absurd (done-not-refused (sym h ∙ g.says))
+          of-done : (c : Answer Said) → TellsSecond q z (second c) v out v' out' (Ok d) → {u' : Lent} →
+              Written (forest q) u.context u.list u.lists T u'.context u'.list u'.lists → Tells q (all c) u v out u' v' out' (Ok d)
+          of-done (refused i o) g e = absurd (done-not-refused g.says)
           of-done (done c) g {u'} e = go (fits && R c) g
             where
               go :
-                  (d : Bool) → TellsSecond q z (cond d (done c) (refused Refusal.full none)) v out v' out' y →
-                  Tells q (cond d (done (record { step3 = T; step42ns = c })) (refused Refusal.full none)) u v out u' v' out' y
+                  (b : Bool) → TellsSecond q z (cond b (done c) (refused Refusal.full none)) v out v' out' (Ok d) →
+                  Tells q (cond b (done (record { step3 = T; step42ns = c })) (refused Refusal.full none)) u v out u' v' out' (Ok d)
               go true g = record { says = g.says; stands = record { step3 = e; step42ns = g.stands.0; frames = g.stands.1 } }
-              go false g = absurd (done-not-refused (sym h ∙ g.says))
+              go false g = absurd (done-not-refused g.says)
 
           -- both are made
-          pub both-made : {u' : Lent} → WriteGiven w x j s t u.context u'.context u.list u'.list u.lists u'.lists m n false → Tells q (on S3) u v out u' v' out' y
-          both-made {u'} e = rw by (of-done S4 (g fits z f.measures.says) {u' = u'} (e b f.jobs f.loaded write-asks))
+          pub both-made : {u' : Lent} → WriteGiven w x j s t u.context u'.context u.list u'.list u.lists u'.lists m n false → Tells q (on S3) u v out u' v' out' (Ok d)
+          both-made {u'} h = rw by (of-done S4 (told e) {u' = u'} (h b f.jobs f.loaded write-asks))

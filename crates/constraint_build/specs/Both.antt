@@ -1,10 +1,12 @@
 -- BOTH LISTS OF THE CONSTRAINT POLYNOMIAL AND THE FRAMES OF ITS POOL, over what the contexts' bytes say: step3 refused, step42ns refused, no room for all (9), or all
 -- of them; and what stands in everything lent after it.
 -- Assumes nothing: these are definitions.
-use Rattle.std.specs.Prelude.{ℕ, ◌≡◌, Bool, ◌&&◌, cond, List, length, leb}
-use Rattle.std.proofs.Math.Option.{none, some}
+use Rattle.std.specs.Prelude.{ℕ, ◌≡◌, Bool, ◌&&◌, cond, List, length, leb, Result, Ok, Err}
+use Rattle.std.proofs.Math.Option.{none}
 use Rattle.meaning.specs.Refusals.{Refusal, Answer, done, refused, ◌then◌}
 use Rattle.kinds.specs.Write.{write}
+use Rattle.kinds.specs.Answers.{refusal_of, blame_of}
+use Rattle.kinds.specs.declared.refusal.Refused.{Refused}
 use Rattle.pool.specs.Pool.{Pool}
 use Rattle.pool.specs.Trees.{forest}
 use Rattle.builds.specs.Raw.{RawSegment}
@@ -14,7 +16,6 @@ use Rattle.constraint_frames.specs.Extension.{bytes_of}
 use Rattle.constraint_lists.specs.Lists.{step3_said, step42ns_said, room_for, Written}
 use Rattle.constraint_build.specs.declared.answer.Sizes.{Sizes}
 use Rattle.constraint_build.specs.declared.answer.Made.{Made}
-use Rattle.constraint_build.specs.declared.answer.Made.TheVariants as made
 
 -- ── the answer ───────────────────────────────────────────────────────────────
 -- what is lent for one of them: a context with its list, and room for three lists
@@ -70,12 +71,10 @@ pub record Totals : Type 0 where
 abbrev pub totals_of : Pool → Both → Totals
 totals_of q b = record { sizes = sizes_of q b; bytes = length (bytes_of q) }
 
--- WHAT Made SAYS
-abbrev pub made_says : Made → Answer Totals
-made_says made.Lost = refused Refusal.not_there none
-made_says (made.DoublePrime i) = refused Refusal.double_prime (some i)
-made_says made.Full = refused Refusal.full none
-made_says (made.Done s b) = done (record { sizes = s; bytes = b })
+-- WHAT IS SAID
+abbrev pub made_says : Result Made Refused → Answer Totals
+made_says (Ok m) = done (record { sizes = m.sizes; bytes = m.bytes })
+made_says (Err f) = refused (refusal_of f.refusal) (blame_of f.node)
 
 -- ── what stands after it ─────────────────────────────────────────────────────
 pub record After (q : Pool) (b : Both) (u v : Lent) (out : List ℕ) (u' v' : Lent) (out' : List ℕ) : Type 0 where
@@ -89,6 +88,6 @@ Stands q (done b) u v out u' v' out' = After q b u v out u' v' out'
 Stands q (refused k o) u v out u' v' out' = (u' ≡ u) × (v' ≡ v) × (out' ≡ out)
 
 -- AN ANSWER TOLD, and everything lent after it
-pub record Tells (q : Pool) (a : Answer Both) (u v : Lent) (out : List ℕ) (u' v' : Lent) (out' : List ℕ) (r : Made) : Type 0 where
+pub record Tells (q : Pool) (a : Answer Both) (u v : Lent) (out : List ℕ) (u' v' : Lent) (out' : List ℕ) (r : Result Made Refused) : Type 0 where
   pub says : made_says r ≡ (a then λ b. done (totals_of q b))
   pub stands : Stands q a u v out u' v' out'

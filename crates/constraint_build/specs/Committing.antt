@@ -1,11 +1,13 @@
 -- What planning and measuring one list, and making the second with the frames, ask and give, over tables.
 -- Assumes nothing: these are definitions.
-use Rattle.std.specs.Prelude.{ℕ, ◌-◌, ◌≤◌, ◌<◌, ◌≡◌, Bool, true, false, ◌&&◌, cond, List, length, leb}
-use Rattle.std.proofs.Math.Option.{none, some}
+use Rattle.std.specs.Prelude.{ℕ, ◌-◌, ◌≤◌, ◌<◌, ◌≡◌, Bool, ◌&&◌, cond, List, length, leb, Option, Some, None, Result, Ok, Err}
+use Rattle.std.proofs.Math.Option.{none}
 use Rattle.meaning.specs.Refusals.{Refusal, Answer, done, refused, ◌then◌}
 use Rattle.meaning.specs.Trees.{Acyclic}
 use Rattle.meaning.specs.Order.{Job}
 use Rattle.kinds.specs.Write.{write}
+use Rattle.kinds.specs.Answers.{refusal_of, blame_of}
+use Rattle.kinds.specs.declared.refusal.Refused.{Refused}
 use Rattle.frames.specs.Order.{node_limit, expression_limit}
 use Rattle.pool.specs.Pool.{Pool}
 use Rattle.pool.specs.Trees.{forest}
@@ -15,21 +17,16 @@ use Rattle.requests.specs.Making.{E}
 use Rattle.context.specs.Context.{Good}
 use Rattle.codegen.specs.Said.{Said, said, segment_said}
 use Rattle.codegen.specs.Building as building
+use Rattle.codegen.specs.declared.build.Sizes as steps
 use Rattle.constraint_pieces.specs.Marks.{AllBelow}
 use Rattle.constraint_frames.specs.Extension.{bytes_of}
 use Rattle.constraint_lists.specs.Lists.{list_said, step42ns_said, room_for, Written}
 use Rattle.constraint_lists.specs.Planned.{ListAsks, TablesAsk}
-use Rattle.constraint_lists.specs.Measuring.{final_said, MeasureAsks, Measures, measured_says}
-use Rattle.constraint_lists.specs.declared.measure.Measured.{Measured}
-use Rattle.constraint_lists.specs.declared.measure.Measured.TheVariants as measured
+use Rattle.constraint_lists.specs.Measuring.{final_said, Measured, MeasureAsks, Measures, measured_says}
 use Rattle.constraint_build.specs.Both.{Lent, Totals, made_says}
 use Rattle.constraint_build.specs.declared.answer.Sizes.{Sizes}
-use Rattle.constraint_build.specs.declared.answer.Rooms.{Rooms}
-use Rattle.constraint_build.specs.declared.answer.Rooms.TheVariants as rooms
 use Rattle.constraint_build.specs.declared.answer.Fit.{Fit}
-use Rattle.constraint_build.specs.declared.answer.Fit.TheVariants as fit
 use Rattle.constraint_build.specs.declared.answer.Made.{Made}
-use Rattle.constraint_build.specs.declared.answer.Made.TheVariants as made
 
 -- the rest of a pool in tables
 abbrev pub rest_of : List ℕ → List ℕ → ℕ → ℕ → Rest
@@ -48,23 +45,25 @@ pub record Fitted (w x : List ℕ) (b : Rest) (ms qs : List ℕ) (u : Lent) (s t
   pub is : list_said (E w x b) ms qs closes (said u.context u.list) ≡ done (final_said (E w x b) jobs closes s u.context u.list)
   pub measures : Measures (E w x b) jobs closes s loaded t u.context u.list u.lists n r
 
--- WHAT Fit SAYS
-pub record FitSays (w x : List ℕ) (b : Rest) (ms qs : List ℕ) (u : Lent) (s t j : List ℕ) (m : ℕ) (closes : Bool) (r : Fit) : Type 0 where
-  pub lost : r ≡ fit.Lost → list_said (E w x b) ms qs closes (said u.context u.list) ≡ refused Refusal.not_there none
-  pub primed : (i : ℕ) → r ≡ fit.DoublePrime i → list_said (E w x b) ms qs closes (said u.context u.list) ≡ refused Refusal.double_prime (some i)
-  pub planned : (n : ℕ) (k : Measured) → r ≡ fit.Planned n k → Fitted w x b ms qs u s t j m closes n k
+-- WHAT IS SAID of a list
+pub record FitSays (w x : List ℕ) (b : Rest) (ms qs : List ℕ) (u : Lent) (s t j : List ℕ) (m : ℕ) (closes : Bool) (r : Result Fit Refused) : Type 0 where
+  pub unplanned : (f : Refused) → r ≡ Err f → list_said (E w x b) ms qs closes (said u.context u.list) ≡ refused (refusal_of f.refusal) (blame_of f.node)
+  pub planned : (f : Fit) → r ≡ Ok f → Fitted w x b ms qs u s t j m closes f.n f.room
 
 -- for whichever rest of an acyclic pool
-abbrev pub FitGiven : List ℕ → List ℕ → List ℕ → List ℕ → Lent → List ℕ → List ℕ → List ℕ → ℕ → Bool → Fit → Type 0
+abbrev pub FitGiven : List ℕ → List ℕ → List ℕ → List ℕ → Lent → List ℕ → List ℕ → List ℕ → ℕ → Bool → Result Fit Refused → Type 0
 FitGiven w x ms qs u s t j m closes r =
     (b : Rest) (A : Acyclic (forest (pool_of w b))) → ListAsks w x b A ms qs u.context (length u.list) m → FitSays w x b ms qs u s t j m closes r
 
 -- ── room for both ────────────────────────────────────────────────────────────
-abbrev pub joined : Measured → Measured → Rooms
-joined measured.Full two = rooms.Full
-joined (measured.Sizes a b c) measured.Full = rooms.Full
-joined (measured.Sizes a b c) (measured.Sizes d e f) =
-    rooms.Fit (record { first = a; i = b; last = c; first_2ns = d; i_2ns = e; last_2ns = f })
+-- steps of both lists
+abbrev pub sizes_with : steps.Sizes → steps.Sizes → Sizes
+sizes_with s t = record { first = s.first; i = s.i; last = s.last; first_2ns = t.first; i_2ns = t.i; last_2ns = t.last }
+
+abbrev pub joined : Measured → Measured → Option Sizes
+joined None two = None
+joined (Some s) None = None
+joined (Some s) (Some t) = Some (sizes_with s t)
 
 -- ── the second list and the frames ───────────────────────────────────────────
 -- an admitted pool in tables whose rows fit, a context that is good for it, and members that are there
@@ -78,12 +77,8 @@ pub record SecondAsks (w l x ms : List ℕ) (v : Lent) (k m : ℕ) : Type 0 wher
   pub members : AllBelow expression_limit ms
   pub good : Good v.context m (length v.list)
 
--- steps of both lists
-abbrev pub sizes_with : building.Sizes → building.Sizes → Sizes
-sizes_with s t = record { first = s.first; i = s.i; last = s.last; first_2ns = t.first; i_2ns = t.i; last_2ns = t.last }
-
 -- what is told of the second list, where the first has so many steps
-abbrev pub totals_with : Pool → building.Sizes → Said → Totals
+abbrev pub totals_with : Pool → steps.Sizes → Said → Totals
 totals_with q z t = record { sizes = sizes_with z (building.sizes (segment_said (forest q) t)); bytes = length (bytes_of q) }
 
 -- THE ANSWER of the second list: fits says whether there is room for the first
@@ -95,20 +90,13 @@ abbrev pub StandsSecond : Pool → Answer Said → Lent → List ℕ → Lent �
 StandsSecond q (done t) v out v' out' = Written (forest q) v.context v.list v.lists t v'.context v'.list v'.lists × (out' ≡ write out 0 (bytes_of q))
 StandsSecond q (refused k o) v out v' out' = (v' ≡ v) × (out' ≡ out)
 
-pub record TellsSecond (q : Pool) (z : building.Sizes) (a : Answer Said) (v : Lent) (out : List ℕ) (v' : Lent) (out' : List ℕ) (r : Made) : Type 0 where
+pub record TellsSecond (q : Pool) (z : steps.Sizes) (a : Answer Said) (v : Lent) (out : List ℕ) (v' : Lent) (out' : List ℕ) (r : Result Made Refused) : Type 0 where
   pub says : made_says r ≡ (a then λ t. done (totals_with q z t))
   pub stands : StandsSecond q a v out v' out'
 
 -- whatever the first list is, that was measured as `one`
-abbrev pub SecondGiven : List ℕ → List ℕ → List ℕ → List ℕ → Measured → Lent → Lent → ℕ → ℕ → List ℕ → List ℕ → Made → Type 0
+abbrev pub SecondGiven : List ℕ → List ℕ → List ℕ → List ℕ → Measured → Lent → Lent → ℕ → ℕ → List ℕ → List ℕ → Result Made Refused → Type 0
 SecondGiven w l x ms one v v' k m out out' r =
     let q = pool_of w (rest_of l x k m) in
-    (fits : Bool) (z : building.Sizes) → measured_says one ≡ cond fits (done z) (refused Refusal.full none) →
+    (fits : Bool) (z : steps.Sizes) → measured_says one ≡ cond fits (done z) (refused Refusal.full none) →
     TellsSecond q z (step42ns_said (forest q) ms (m - 1) (said v.context v.list) then λ t. fitting_second q fits v (length out) t) v out v' out' r
-
--- all was made
-abbrev pub is_done : Made → Bool
-is_done made.Lost = false
-is_done (made.DoublePrime i) = false
-is_done made.Full = false
-is_done (made.Done s b) = true

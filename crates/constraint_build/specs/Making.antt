@@ -1,7 +1,8 @@
 -- What making both lists asks and gives, over tables that hold the pool with its constraint.
 -- Assumes nothing: these are definitions.
-use Rattle.std.specs.Prelude.{ℕ, ◌-◌, ◌≤◌, ◌<◌, List, length}
+use Rattle.std.specs.Prelude.{ℕ, ◌-◌, ◌≤◌, ◌<◌, List, length, Result}
 use Rattle.meaning.specs.Trees.{Acyclic}
+use Rattle.kinds.specs.declared.refusal.Refused.{Refused}
 use Rattle.frames.specs.Order.{node_limit, expression_limit}
 use Rattle.pool.specs.Trees.{forest}
 use Rattle.pool.specs.Shaped.{Shaped}
@@ -28,6 +29,6 @@ pub record MakeAsks (w l x ms : List ℕ) (u v : Lent) (k m : ℕ) : Type 0 wher
 abbrev pub MakeAsked : List ℕ → List ℕ → List ℕ → List ℕ → Lent → Lent → ℕ → ℕ → Type 0
 MakeAsked w l x ms u v k m = MakeAsks w l x ms u v k m
 
-abbrev pub MakeGiven : List ℕ → List ℕ → List ℕ → List ℕ → Lent → Lent → Lent → Lent → ℕ → ℕ → List ℕ → List ℕ → Made → Type 0
+abbrev pub MakeGiven : List ℕ → List ℕ → List ℕ → List ℕ → Lent → Lent → Lent → Lent → ℕ → ℕ → List ℕ → List ℕ → Result Made Refused → Type 0
 MakeGiven w l x ms u u' v v' k m out out' r =
     let q = pool_of w (rest_of l x k m) in Tells q (listing q (m - 1) ms u v (length out)) u v out u' v' out' r

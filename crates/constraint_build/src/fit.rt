@@ -8,7 +8,7 @@ use constraint_lists::measure::measure;
 use constraint_lists::plan::plan_list;
 use frames::count::EXPRESSION_LIMIT;
 use frames::tables::NODE_WORDS;
-use requests::plan::Plan;
+use kinds::refusal::Refused;
 use starkinfo_codegen::order::JOB_LIMIT;
 
 // Those of `marked` are marked, those of `asked` asked for. Where there is room, leaves the marks, jobs and words with which the list is written.
@@ -27,11 +27,11 @@ pub fn fit_list(
     jobs: &mut [u64; JOB_LIMIT],
     m: usize,
     closes: bool,
-) -> Fit
+) -> Result<Fit, Refused>
     requires { FitAsked nodes.now expressions.now marked.now asked.now (lent context.now list.now (lists first.now i.now last.now)) marks.old words.old jobs.old m }
     ensures { FitGiven nodes.now expressions.now marked.now asked.now (lent context.now list.now (lists first.now i.now last.now)) marks.new words.new jobs.new m closes result }
 {
-    match plan_list(
+    let n = plan_list(
         nodes,
         expressions,
         marked,
@@ -41,25 +41,20 @@ pub fn fit_list(
         words,
         jobs,
         m,
-    ) {
-        Plan::NotThere => Fit::Lost,
-        Plan::DoublePrime(k) => Fit::DoublePrime(k),
-        Plan::Jobs(n) => Fit::Planned {
-            n,
-            room: measure(
-                nodes,
-                expressions,
-                jobs,
-                words,
-                context,
-                list,
-                first,
-                i,
-                last,
-                m,
-                n,
-                closes,
-            ),
-        },
-    }
+    )?;
+    let room = measure(
+        nodes,
+        expressions,
+        jobs,
+        words,
+        context,
+        list,
+        first,
+        i,
+        last,
+        m,
+        n,
+        closes,
+    );
+    Ok(Fit { n, room })
 }

@@ -3,15 +3,17 @@ ghost use Rattle.codegen.specs.Building.{lists};
 ghost use Rattle.constraint_build.specs.Both.{lent};
 ghost use Rattle.constraint_build.specs.Making.{MakeAsked, MakeGiven};
 
-use crate::answer::{Fit, Made, is_done};
+use crate::answer::Made;
 use crate::fit::fit_list;
 use crate::second::make_second;
 use constraint_lists::write::write_list;
 use frames::count::{EXPRESSION_LIMIT, NODE_LIMIT};
 use frames::tables::NODE_WORDS;
+use kinds::refusal::Refused;
 use starkinfo_codegen::order::JOB_LIMIT;
 
 // Of `count` nodes and `m` expressions, of which the last is the constraint; `members` are its intermediates.
+// The slices of a context are no struct: one that holds them as `&mut` and is passed on to a call is not covered by the borrow checker.
 pub fn make_lists(
     nodes: &[u64; NODE_WORDS],
     literals: &[u64; NODE_LIMIT],
@@ -30,18 +32,17 @@ pub fn make_lists(
     count: usize,
     m: usize,
     out: &mut [u8],
-) -> Made
+) -> Result<Made, Refused>
     requires { MakeAsked nodes.now literals.now expressions.now members.now (lent context.old list.old (lists first.old i.old last.old)) (lent context_2ns.old list_2ns.old (lists first_2ns.old i_2ns.old last_2ns.old)) count m }
     ensures { MakeGiven nodes.now literals.now expressions.now members.now (lent context.old list.old (lists first.old i.old last.old)) (lent context.new list.new (lists first.new i.new last.new)) (lent context_2ns.old list_2ns.old (lists first_2ns.old i_2ns.old last_2ns.old)) (lent context_2ns.new list_2ns.new (lists first_2ns.new i_2ns.new last_2ns.new)) count m out.old out.new result }
 {
     let mut marks = [0u8; JOB_LIMIT];
     let mut words = [0u64; JOB_LIMIT];
     let mut jobs = [0u64; JOB_LIMIT];
-    let none = [0u64; 0];
-    match fit_list(
+    let fit = fit_list(
         nodes,
         expressions,
-        &none,
+        &[],
         members,
         context,
         list,
@@ -53,44 +54,36 @@ pub fn make_lists(
         &mut jobs,
         m,
         false,
-    ) {
-        Fit::Lost => Made::Lost,
-        Fit::DoublePrime(k) => Made::DoublePrime(k),
-        Fit::Planned { n, room } => {
-            let made = make_second(
-                nodes,
-                literals,
-                expressions,
-                members,
-                room,
-                context_2ns,
-                list_2ns,
-                first_2ns,
-                i_2ns,
-                last_2ns,
-                count,
-                m,
-                out,
-            );
-            if !is_done(made) {
-                return made;
-            }
-            write_list(
-                nodes,
-                expressions,
-                &jobs,
-                &mut marks,
-                &words,
-                context,
-                list,
-                first,
-                i,
-                last,
-                m,
-                n,
-                false,
-            );
-            made
-        }
-    }
+    )?;
+    let made = make_second(
+        nodes,
+        literals,
+        expressions,
+        members,
+        fit.room,
+        context_2ns,
+        list_2ns,
+        first_2ns,
+        i_2ns,
+        last_2ns,
+        count,
+        m,
+        out,
+    )?;
+    write_list(
+        nodes,
+        expressions,
+        &jobs,
+        &mut marks,
+        &words,
+        context,
+        list,
+        first,
+        i,
+        last,
+        m,
+        fit.n,
+        false,
+    );
+    Ok(made)
 }

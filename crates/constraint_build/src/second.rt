@@ -3,22 +3,23 @@ ghost use Rattle.codegen.specs.Building.{lists};
 ghost use Rattle.constraint_build.specs.Both.{lent};
 ghost use Rattle.constraint_build.specs.Committing.{SecondAsks, SecondGiven};
 
-use crate::answer::{Fit, Made, Rooms, join};
+use crate::answer::{Made, join};
 use crate::fit::fit_list;
-use constraint_lists::measure::Measured;
+use codegen::build::Sizes;
 use constraint_lists::write::write_list;
 use frames::count::{EXPRESSION_LIMIT, NODE_LIMIT};
 use frames::tables::NODE_WORDS;
-use pool_frames::pool::{Written, write_pool};
+use kinds::refusal::{Refusal, Refused};
+use pool_frames::pool::write_pool;
 use starkinfo_codegen::order::JOB_LIMIT;
 
-// `one` is step3 measured.
+// `one` is the steps of step3, where there is room for it.
 pub fn make_second(
     nodes: &[u64; NODE_WORDS],
     literals: &[u64; NODE_LIMIT],
     expressions: &[u64; EXPRESSION_LIMIT],
     members: &[u64],
-    one: Measured,
+    one: Option<Sizes>,
     context: &mut [u8],
     list: &mut [u8],
     first: &mut [u8],
@@ -27,19 +28,18 @@ pub fn make_second(
     count: usize,
     m: usize,
     out: &mut [u8],
-) -> Made
+) -> Result<Made, Refused>
     requires { SecondAsks nodes.now literals.now expressions.now members.now (lent context.old list.old (lists first.old i.old last.old)) count m }
     ensures { SecondGiven nodes.now literals.now expressions.now members.now one (lent context.old list.old (lists first.old i.old last.old)) (lent context.new list.new (lists first.new i.new last.new)) count m out.old out.new result }
 {
     let mut marks = [0u8; JOB_LIMIT];
     let mut words = [0u64; JOB_LIMIT];
     let mut jobs = [0u64; JOB_LIMIT];
-    let constraint = [(m - 1) as u64; 1];
-    match fit_list(
+    let fit = fit_list(
         nodes,
         expressions,
         members,
-        &constraint,
+        &[(m - 1) as u64],
         context,
         list,
         first,
@@ -50,32 +50,23 @@ pub fn make_second(
         &mut jobs,
         m,
         true,
-    ) {
-        Fit::Lost => Made::Lost,
-        Fit::DoublePrime(k) => Made::DoublePrime(k),
-        Fit::Planned { n, room } => match join(one, room) {
-            Rooms::Full => Made::Full,
-            Rooms::Fit(sizes) => match write_pool(nodes, literals, expressions, count, m, out) {
-                Written::Full => Made::Full,
-                Written::Done(bytes) => {
-                    write_list(
-                        nodes,
-                        expressions,
-                        &jobs,
-                        &mut marks,
-                        &words,
-                        context,
-                        list,
-                        first,
-                        i,
-                        last,
-                        m,
-                        n,
-                        true,
-                    );
-                    Made::Done { sizes, bytes }
-                }
-            },
-        },
-    }
+    )?;
+    let sizes = join(one, fit.room).ok_or(Refusal::Full)?;
+    let bytes = write_pool(nodes, literals, expressions, count, m, out).ok_or(Refusal::Full)?;
+    write_list(
+        nodes,
+        expressions,
+        &jobs,
+        &mut marks,
+        &words,
+        context,
+        list,
+        first,
+        i,
+        last,
+        m,
+        fit.n,
+        true,
+    );
+    Ok(Made { sizes, bytes })
 }

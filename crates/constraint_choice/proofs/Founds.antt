@@ -1,19 +1,20 @@
 -- An admitted pool searched: the search's refusal, that of the limits and counts, or the set with the pool and its constraint. Over plain variables.
 -- Assumes nothing.
-use Prim.Native.Nat.{ℕ, zero, suc, ◌+◌, ◌≤◌, ◌<◌}
-use mathlib.Core.Path.{◌≡◌, refl, sym, ◌∙◌, ap, subst}
-use mathlib.Core.Option.{Option, none, some}
-use mathlib.Core.List.{List, [], ◌∷◌}
+use Prim.Native.Nat.{ℕ, ◌+◌, ◌<◌}
+use mathlib.Core.Path.{◌≡◌, sym, ◌∙◌, ap, subst}
+use mathlib.Core.Option.{some}
+use mathlib.Core.List.{List}
 use native.Mathlib.Omega.{arith}
 use lib.ListN.{length, get_or, drop}
-use Rattle.meaning.specs.Refusals.{Refusal, Answer, done, refused, ◌then◌}
-use Rattle.meaning.specs.Trees.{Forest, Acyclic}
-use Rattle.frames.specs.Order.{node_limit, expression_limit}
+use Rattle.std.specs.Prelude.{Result, Ok, Err}
+use Rattle.kinds.specs.Answers.{blaming_none}
+use Rattle.kinds.specs.declared.refusal.Refusal as code
+use Rattle.kinds.specs.declared.refusal.Refused.{Refused}
+use Rattle.meaning.specs.Refusals.{Answer, done, refused, ◌then◌}
 use Rattle.frames.specs.Written.{WellFormed}
 use Rattle.frames.specs.declared.count.Counts.{Counts}
 use Rattle.pool.specs.Pool.{Pool}
 use Rattle.pool.specs.Trees.{forest}
-use Rattle.pool.specs.Shaped.{Shaped}
 use Rattle.pool.specs.Tabled.{tabled}
 use Rattle.pool.specs.Ranking.{Tabling}
 use Rattle.pool.specs.Laws.Tabled.{node-count, expression-count}
@@ -25,9 +26,8 @@ use Rattle.degree_search.specs.Choosing as search
 use Rattle.degree_search.specs.Choosing.{searched_says, SetAfter}
 use Rattle.degree_search.specs.Searching.{searched}
 use Rattle.degree_search.specs.Searching as searching
-use Rattle.degree_search.specs.declared.choose.Searched.{Searched}
-use Rattle.degree_search.specs.declared.choose.Searched.TheVariants as found
-use Rattle.constraint_meaning.specs.Members.{members-there, identities-there, some-identity}
+use Rattle.degree_search.specs.declared.choose.Found.{Found}
+use Rattle.constraint_meaning.specs.Members.{members-there, identities-there}
 use Rattle.constraint_pool.specs.Whole.{AllBelow, ConstraintAsks, Adds}
 use Rattle.constraint_pool.specs.Sizes.{WholeSizeAsks}
 use Rattle.constraint_pool.specs.Judging.{judged}
@@ -35,19 +35,12 @@ use Rattle.constraint_pool.specs.Added.{added_pool, added_shaped, added_acyclic}
 use Rattle.constraint_pool.specs.Extending.{ExtendAsks, Gives, TablesAfter, extended_says}
 use Rattle.constraint_pool.proofs.Verdicts.{constraint-asks}
 use Rattle.constraint_pool.specs.declared.judge.Columns.{Columns}
-use Rattle.constraint_pool.specs.declared.entry.Extended.{Extended}
-use Rattle.constraint_pool.specs.declared.entry.Extended.TheVariants as extended
 use Rattle.constraint_frames.specs.Formed.{input_of, constraint-formed}
 use Rattle.constraint_frames.specs.Extension.{pool_with}
-use Rattle.constraint_frames.specs.Unique.{columns_of}
 use Rattle.constraint_frames.proofs.Extending.{then-refused, then-passed}
-use Rattle.constraint_choice.specs.Choosing.{asked_by, columns_with, question_of, deciding, why_of, Left, tables, Ready, Tells, ExtendAsked, ExtendGiven, decided_by, AdmittedAsks}
+use Rattle.constraint_choice.specs.Choosing.{asked_by, columns_with, question_of, deciding, why_of, Left, tables, Ready, Tells, ExtendAsked, ExtendGiven, AdmittedAsks}
 use Rattle.constraint_choice.specs.Below.{each_at, some_one}
 use Rattle.constraint_choice.specs.declared.answer.Asking.{Asking}
-use Rattle.constraint_choice.specs.declared.answer.Refused.{Refused}
-use Rattle.constraint_choice.specs.declared.answer.Refused.TheVariants as why
-use Rattle.constraint_choice.specs.declared.answer.Decided.{Decided}
-use Rattle.constraint_choice.specs.declared.answer.Decided.TheVariants as decided
 
 -- ---- the members of a set, listed
 
@@ -55,7 +48,7 @@ pub extend_for : {w l x ids : List ℕ} (s : List ℕ) (k : Counts) → ExtendAs
 extend_for {w} {l} {x} {ids} s k a e = subst (λ z. ExtendAsks w l x ids z k.nodes k.expressions) (sym e) a
 
 pub extend-gives :
-    {w l x ids : List ℕ} (s : List ℕ) (a : Asking) (q : ℕ) (k : Counts) {w' l' x' : List ℕ} {r : Extended} {ms : List ℕ} {c : Columns} → ms ≡ members s → c ≡ columns_with a.before q →
+    {w l x ids : List ℕ} (s : List ℕ) (a : Asking) (q : ℕ) (k : Counts) {w' l' x' : List ℕ} {r : Result ℕ code.Refusal} {ms : List ℕ} {c : Columns} → ms ≡ members s → c ≡ columns_with a.before q →
     Gives w l x ids ms a.vc c k.nodes k.expressions w' l' x' r → ExtendGiven w l x ids a q k (tables s w' l' x') r
 extend-gives {w} {l} {x} {ids} s a q k {w'} {l'} {x'} {r} {ms} {c} e f g =
     subst (λ z. Gives w l x ids (members s) a.vc z k.nodes k.expressions w' l' x' r) f
@@ -95,20 +88,20 @@ module _ {w l x : List ℕ} {k : Counts} (a : AdmittedAsks w l x k) (ids : List 
     ranked = acyclic-ranked P a.acyclic;
   }
 
-  module _ {s s' : List ℕ} {r : Searched} (given : searching.AdmittedGiven w x ids s s' q.n_bits q.n_bits_ext q.limit k.nodes k.expressions r) where
+  module _ {s s' : List ℕ} {r : Result Found Refused} (given : searching.AdmittedGiven w x ids s s' q.n_bits q.n_bits_ext q.limit k.nodes k.expressions r) where
     g : search.Tells (searched P (searching.asking ids q.vc q.n_bits q.n_bits_ext q.limit)) s s' r
     g = given l a.acyclic.rank world q.vc
 
-    said : {y : Searched} → r ≡ y → searched_says y s' ≡ S
+    said : {y : Result Found Refused} → r ≡ y → searched_says y s' ≡ S
     said e = sym (ap (λ z. searched_says z s') e) ∙ g.says
 
     -- a refusal of the search
-    pub unfound : (y : Searched) → r ≡ y → (d : Refused) → searched_says y s' ≡ refused (why_of d).kind (why_of d).node → D ≡ refused (why_of d).kind (why_of d).node
-    unfound y e d h = ap on (sym (said e) ∙ h)
+    pub unfound : {d : Refused} → r ≡ Err d → D ≡ refused (why_of d).kind (why_of d).node
+    unfound e = ap on (sym (said e))
 
-    module _ {n v : ℕ} (e : r ≡ found.Found n v) where
+    module _ {f : Found} (e : r ≡ Ok f) where
       abbrev X : Choice
-      X = record { set = members s'; q = n; visits = v }
+      X = record { set = members s'; q = f.q; visits = f.visits }
 
       chose : S ≡ done X
       chose = sym (said e)
@@ -135,9 +128,9 @@ module _ {w l x : List ℕ} {k : Counts} (a : AdmittedAsks w l x k) (ids : List 
       pub extend_asks : ExtendAsked w l x ids s' k
       extend_asks = record { whole = whole; identities = ids-below }
 
-      module _ {w' l' x' : List ℕ} {y : Extended} (h : ExtendGiven w l x ids q n k (tables s' w' l' x') y) (v16 : q.vc < 65536) where
+      module _ {w' l' x' : List ℕ} {y : Result ℕ code.Refusal} (h : ExtendGiven w l x ids q f.q k (tables s' w' l' x') y) (v16 : q.vc < 65536) where
         abbrev c : Columns
-        c = columns_with q.before n
+        c = columns_with q.before f.q
 
         abbrev T : Left
         T = tables s' w' l' x'
@@ -152,16 +145,10 @@ module _ {w l x : List ℕ} {k : Counts} (a : AdmittedAsks w l x k) (ids : List 
         by : D ≡ (K then λ _. done X)
         by = ap on chose ∙ ap (λ (z : Answer (Unit {0})). z then λ _. done X) judged-is
 
-        over : (d : Refused) → K ≡ refused (why_of d).kind (why_of d).node → Tells P (asked_by ids q) D T (decided.Refused d)
-        over d e = by ∙ ap (λ (z : Answer (Unit {0})). z then λ _. done X) e
+        pub unextended : {b : code.Refusal} → y ≡ Err b → Tells P (asked_by ids q) D T (Err (blaming_none b))
+        unextended e = by ∙ ap (λ (z : Answer (Unit {0})). z then λ _. done X) (then-refused K _ (sym (ap extended_says e) ∙ h.answer))
 
-        full : y ≡ extended.Full → Tells P (asked_by ids q) D T (decided.Refused why.Full)
-        full e = over why.Full (then-refused K _ (sym (ap extended_says e) ∙ h.answer))
-
-        counts : y ≡ extended.Counts → Tells P (asked_by ids q) D T (decided.Refused why.Counts)
-        counts e = over why.Counts (then-refused K _ (sym (ap extended_says e) ∙ h.answer))
-
-        module _ {m : ℕ} (o : y ≡ extended.Added m) where
+        module _ {m : ℕ} (o : y ≡ Ok m) where
           fine : K ≡ done tt
           fine = then-passed K _ (sym (ap extended_says o) ∙ h.answer)
 
@@ -176,7 +163,7 @@ module _ {w l x : List ℕ} {k : Counts} (a : AdmittedAsks w l x k) (ids : List 
               constraint-formed P a.shaped (a.read.formed a.shaped) q.vc c.commitments (get_or ids 0 0) (drop 1 ids) (members s') (rw expressions_are members-below)
               (rw nodes_are asks.room) (rw expressions_are asks.few)
 
-          ready : Ready P (asked_by ids q) D T (record { q = n; visits = v; nodes = m; expressions = k.expressions + 1 })
+          pub ready : Ready P (asked_by ids q) D T (record { q = f.q; visits = f.visits; nodes = m; expressions = k.expressions + 1 })
           ready = record {
             chose = by ∙ ap (λ (z : Answer (Unit {0})). z then λ _. done X) fine;
             good = kept;
@@ -189,12 +176,3 @@ module _ {w l x : List ℕ} {k : Counts} (a : AdmittedAsks w l x k) (ids : List 
             few_nodes = omega (arith, adds.nodes.next, asks.room);
             few_expressions = omega (arith, asks.few);
           }
-
-        told : (u : Extended) → y ≡ u → Tells P (asked_by ids q) D T (decided_by u n v k.expressions)
-        told extended.Full e = full e
-        told extended.Counts e = counts e
-        told (extended.Added m) e = ready e
-
-        -- what follows from the set
-        pub extended-told : {d : Decided} → d ≡ decided_by y n v k.expressions → Tells P (asked_by ids q) D T d
-        extended-told e = subst (Tells P (asked_by ids q) D T) (sym e) (told y refl)

@@ -8,24 +8,22 @@ use mathlib.Core.List.{List, []}
 use lib.ListN.{length}
 use Rattle.meaning.specs.Refusals.{Refusal, Answer, done, refused, ◌then◌}
 use Rattle.meaning.proofs.Laws.Tests.{done-same, done-not-refused}
-use Rattle.frames.specs.Order.{Input, blame_answer}
+use Rattle.std.specs.Prelude.{Result, Ok, Err}
+use Rattle.kinds.specs.Answers.{blaming_none}
+use Rattle.kinds.specs.declared.refusal.Refusal.TheVariants as refusal
+use Rattle.kinds.specs.declared.refusal.Refused.{Refused}
 use Rattle.frames.specs.Tables as frames
 use Rattle.frames.specs.Tables.{input_in}
 use Rattle.frames.specs.Reading.{reading, held, Fills}
 use Rattle.frames.specs.Limits.{read-within}
 use Rattle.frames.specs.Written.{WellFormed}
 use Rattle.frames.specs.declared.count.Counts.{Counts}
-use Rattle.frames.specs.declared.count.Blame.{Blame}
-use Rattle.frames.specs.declared.count.Reading.{Reading}
-use Rattle.frames.specs.declared.count.Reading.TheVariants as was
 use Rattle.pool.specs.Pool.{Pool}
 use Rattle.pool.specs.Trees.{forest}
 use Rattle.pool.specs.Shaped.{Shaped}
 use Rattle.pool.specs.Verdict.{Verdict}
 use Rattle.pool.specs.Exactly.{exactly_0}
-use Rattle.pool.specs.Admitting.{Admits, Fits, verdict_says}
-use Rattle.pool.specs.declared.admit.Admission.{Admission}
-use Rattle.pool.specs.declared.admit.Verdict as admit
+use Rattle.pool.specs.Admitting.{Admits, verdict_says}
 use Rattle.pool.specs.Tabled.{tabled}
 use Rattle.pool.specs.Ranking.{Tabling}
 use Rattle.pool.specs.Numbered.{pool_of}
@@ -46,11 +44,7 @@ use Rattle.constraint_frames.specs.Unique.{columns_of}
 use Rattle.constraint_frames.specs.Extension.{Back}
 use Rattle.constraint_frames.specs.Backward.{shaped-few, back-asks}
 use Rattle.constraint_choice.specs.Below.{each_at, some_one, refused_as}
-use Rattle.constraint_choice.specs.Choosing.{question_of, Contexts, deciding, Accepts, OrMalformed, Chooses, why_of, Left, Ready, Tells, TellsRead, DecideIs, ReadAsks, AdmittedAsks}
-use Rattle.constraint_choice.specs.declared.answer.Refused.{Refused}
-use Rattle.constraint_choice.specs.declared.answer.Refused.TheVariants as why
-use Rattle.constraint_choice.specs.declared.answer.Decided.{Decided}
-use Rattle.constraint_choice.specs.declared.answer.Decided.TheVariants as decided
+use Rattle.constraint_choice.specs.Choosing.{question_of, Contexts, deciding, Accepts, OrMalformed, Chooses, why_of, Left, Ready, Tells, TellsRead, DecideIs, ReadAsks, AdmittedAsks, Decided}
 
 module _ {w l x : List ℕ} {k : Counts} (a : ReadAsks w l x k) (q : Asked) (c : Contexts) where
   abbrev P : Pool
@@ -63,18 +57,19 @@ module _ {w l x : List ℕ} {k : Counts} (a : ReadAsks w l x k) (q : Asked) (c :
   expressions_are : length P.expressions ≡ k.expressions
   expressions_are = expression-count (Tabling w l x k.nodes k.expressions)
 
-  pub admit-fits : Fits [] k.nodes k.expressions
-  admit-fits = record { nodes = a.nodes; expressions = a.expressions; tabulated = λ u z. absurd z }
-
   -- of the pool's own number of expressions
   own : {g : Bool} {y : List ℕ} {room : ℕ} → Exactly g (Good y k.expressions room) → Exactly g (Good y (length P.expressions) room)
   own {g} {y} {room} h = subst (λ i. Exactly g (Good y i room)) (sym expressions_are) h
+
+  -- one context is not good for it
+  abbrev malformed_context : Refused
+  malformed_context = blaming_none refusal.Malformed
 
   module _ {g : Bool} (gh : Exactly g (Good c.first k.expressions c.bytes)) where
     or_malformed : (b : Bool) → g ≡ b → (z : Answer Choice) (R : Type 0) → OrMalformed b z R → OrMalformed g z R
     or_malformed b e z R h = subst (λ i. OrMalformed i z R) (sym e) h
 
-    pub bad-first : g ≡ false → Untold why.BadContext
+    pub bad-first : g ≡ false → Untold malformed_context
     bad-first e = (refused Refusal.malformed none, (g, own gh, or_malformed false e _ _ refl), refl)
 
     module _ (ge : g ≡ true) {h : Bool} (hh : Exactly h (Good c.second k.expressions c.bytes_2ns)) where
@@ -82,11 +77,11 @@ module _ {w l x : List ℕ} {k : Counts} (a : ReadAsks w l x k) (q : Asked) (c :
       rest z b e o =
           (g, own gh, or_malformed true ge z _ (h, own hh, subst (λ i. OrMalformed i z ((y : Answer (Unit {0})) × Verdict P [] y × (z ≡ (y then λ _. deciding P q)))) (sym e) o))
 
-      pub bad-second : h ≡ false → Untold why.BadContext
+      pub bad-second : h ≡ false → Untold malformed_context
       bad-second e = (refused Refusal.malformed none, rest _ false e refl, refl)
 
       module _ (he : h ≡ true) where
-        pub judged : {y : List ℕ} {d : Admission} → Admits (Tabling w l x k.nodes k.expressions) y d → y ≡ [] → {o : admit.Verdict} → d.verdict ≡ o → Verdict P [] (verdict_says o)
+        pub judged : {y : List ℕ} {d : Result (List ℕ) Refused} → Admits (Tabling w l x k.nodes k.expressions) y d → y ≡ [] → {o : Result (List ℕ) Refused} → d ≡ o → Verdict P [] (verdict_says o)
         judged = judged_as w x k (record { nodes = a.nodes; expressions = a.expressions }) l
 
         pub refused-pool : (d : Refused) → Verdict P [] (refused (why_of d).kind (why_of d).node) → Untold d
@@ -101,8 +96,8 @@ module _ {w l x : List ℕ} {k : Counts} (a : ReadAsks w l x k) (q : Asked) (c :
 
 -- ---- of what was read
 
-module _ {s : List ℕ} {f : frames.Tables} {r : Reading} (fills : Fills s r f) (q : Asked) (v16 : q.vc < 65536) (c : Contexts) where
-  unread : (d : Refused) → refused (why_of d).kind (why_of d).node ≡ reading s → (t : Left) → DecideIs s q c t (decided.Refused d)
+module _ {s : List ℕ} {f : frames.Tables} {r : Result Counts Refused} (fills : Fills s r f) (q : Asked) (v16 : q.vc < 65536) (c : Contexts) where
+  unread : (d : Refused) → refused (why_of d).kind (why_of d).node ≡ reading s → (t : Left) → DecideIs s q c t (Err d)
   unread d h t =
       record {
         answer = refused (why_of d).kind (why_of d).node;
@@ -112,13 +107,10 @@ module _ {s : List ℕ} {f : frames.Tables} {r : Reading} (fills : Fills s r f) 
         back = λ i e. absurd (done-not-refused (sym e ∙ sym h));
       }
 
-  pub malformed : {b : Blame} → r ≡ was.Malformed b → (t : Left) → DecideIs s q c t (decided.Refused (why.Malformed b))
-  malformed {b} e t = unread (why.Malformed b) (ap (held f) (sym e) ∙ fills.answer) t
+  pub unread-told : {d : Refused} → r ≡ Err d → (t : Left) → DecideIs s q c t (Err d)
+  unread-told {d} e t = unread d (ap (held f) (sym e) ∙ fills.answer) t
 
-  pub limit : {b : Blame} → r ≡ was.Full b → (t : Left) → DecideIs s q c t (decided.Refused (why.Limit b))
-  limit {b} e t = unread (why.Limit b) (ap (held f) (sym e) ∙ fills.answer) t
-
-  module _ {k : Counts} (e : r ≡ was.Read k) where
+  module _ {k : Counts} (e : r ≡ Ok k) where
     read_is : done (input_in f k) ≡ reading s
     read_is = ap (held f) (sym e) ∙ fills.answer
 
@@ -159,8 +151,8 @@ module _ {s : List ℕ} {f : frames.Tables} {r : Reading} (fills : Fills s r f) 
         (constraint-asks whole (columns_of q x.q) q.vc ids (sym fine)) (formed a.0) a.1
 
     tells-read : (z : Answer Choice) (t : Left) (d : Decided) → Tells R q z t d → TellsRead s q z t d
-    tells-read z t (decided.Refused d) h = h
-    tells-read z t (decided.Chosen n) h = (input_in f k, sym read_is, subst (λ p. Ready p q z t n) (sym pool-is) h)
+    tells-read z t (Err d) h = h
+    tells-read z t (Ok n) h = (input_in f k, sym read_is, subst (λ p. Ready p q z t n) (sym pool-is) h)
 
     pub read : (t : Left) (d : Decided) → (z : Answer Choice) × Chooses R q c z × Tells R q z t d → DecideIs s q c t d
     read t d g =

@@ -1,11 +1,14 @@
 -- THE CHOICE FROM BYTES: what is decided of frames, identities, bits, a limit of visits, counts and two contexts, before any list is looked at. The order of refusals: 1 and 9
 -- while reading, 1 of a context, 2, 3 and 4 of the pool, the search's, 9 of the limits, and 11. Where a set is chosen, the caller's tables hold it and the pool with the
 -- constraint. Assumes nothing: these are definitions.
-use Rattle.std.specs.Prelude.{ℕ, ◌+◌, ◌≤◌, ◌≡◌, Bool, true, false, List, [], length}
+use Rattle.std.specs.Prelude.{Result, Ok, Err, ℕ, ◌+◌, ◌≤◌, ◌≡◌, Bool, true, false, List, [], length}
 use Rattle.std.proofs.Math.Option.{Option, none, some}
+use Rattle.kinds.specs.Answers.{refusal_of, blame_of}
+use Rattle.kinds.specs.declared.refusal.Refusal as code
+use Rattle.kinds.specs.declared.refusal.Refused.{Refused}
 use Rattle.meaning.specs.Refusals.{Refusal, Answer, done, refused, ◌then◌}
 use Rattle.meaning.specs.Trees.{Acyclic}
-use Rattle.frames.specs.Order.{node_limit, expression_limit, Input, blame_answer}
+use Rattle.frames.specs.Order.{node_limit, expression_limit, Input}
 use Rattle.frames.specs.Reading.{reading}
 use Rattle.frames.specs.Written.{WellFormed}
 use Rattle.frames.specs.declared.count.Counts.{Counts}
@@ -26,18 +29,12 @@ use Rattle.constraint_pool.specs.Whole.{AllBelow}
 use Rattle.constraint_pool.specs.Added.{Wide}
 use Rattle.constraint_pool.specs.Extending.{ExtendAsks, Gives}
 use Rattle.constraint_pool.specs.declared.judge.Columns.{Columns}
-use Rattle.constraint_pool.specs.declared.entry.Extended.{Extended}
-use Rattle.constraint_pool.specs.declared.entry.Extended.TheVariants as extended
 use Rattle.constraint_frames.specs.Formed.{input_of}
 use Rattle.constraint_frames.specs.Extension.{Question, asking, pool_with, Back}
 use Rattle.constraint_frames.specs.Unique.{columns_of}
 use Rattle.constraint_choice.specs.declared.answer.Before.{Before}
 use Rattle.constraint_choice.specs.declared.answer.Asking.{Asking}
-use Rattle.constraint_choice.specs.declared.answer.Found.{Found}
-use Rattle.constraint_choice.specs.declared.answer.Refused.{Refused}
-use Rattle.constraint_choice.specs.declared.answer.Refused.TheVariants as why
-use Rattle.constraint_choice.specs.declared.answer.Decided.{Decided}
-use Rattle.constraint_choice.specs.declared.answer.Decided.TheVariants as decided
+use Rattle.constraint_choice.specs.declared.answer.Chosen.{Chosen}
 
 -- ── what is asked ────────────────────────────────────────────────────────────
 -- beside the frames
@@ -109,21 +106,11 @@ because k o = record { kind = k; node = o }
 
 -- WHAT Refused SAYS
 abbrev pub why_of : Refused → Why
-why_of (why.Malformed b) = because Refusal.malformed (blame_answer b)
-why_of (why.Limit b) = because Refusal.full (blame_answer b)
-why_of why.BadContext = because Refusal.malformed none
-why_of (why.ChildCount i) = because Refusal.child_count (some i)
-why_of (why.NotThere i) = because Refusal.not_there (some i)
-why_of why.Lost = because Refusal.not_there none
-why_of (why.Cycle i) = because Refusal.cycle (some i)
-why_of why.NoIdentity = because Refusal.no_identity none
-why_of why.Bits = because Refusal.bits none
-why_of why.BadKind = because Refusal.search_kind none
-why_of why.OverLimit = because Refusal.visits none
-why_of why.NoSet = because Refusal.no_set none
-why_of why.NoQuotient = because Refusal.no_quotient none
-why_of why.Full = because Refusal.full none
-why_of why.Counts = because Refusal.counts none
+why_of f = because (refusal_of f.refusal) (blame_of f.node)
+
+-- what is decided
+abbrev pub Decided : Type 0
+Decided = Result Chosen Refused
 
 -- the caller's own tables after it
 pub record Left : Type 0 where
@@ -136,15 +123,15 @@ abbrev pub tables : List ℕ → List ℕ → List ℕ → List ℕ → Left
 tables s w l x = record { set = s; nodes = w; literals = l; expressions = x }
 
 -- what was found, with the set's members
-abbrev pub choice_in : Left → Found → Choice
+abbrev pub choice_in : Left → Chosen → Choice
 choice_in t f = record { set = members t.set; q = f.q; visits = f.visits }
 
 -- the pool with its constraint
-abbrev pub constrained_pool : Pool → Asked → Left → Found → Pool
+abbrev pub constrained_pool : Pool → Asked → Left → Chosen → Pool
 constrained_pool p a t f = pool_with p (question_of a (choice_in t f))
 
 -- A SET IS CHOSEN: z says it, and the tables hold it and the pool with the constraint
-pub record Ready (p : Pool) (a : Asked) (z : Answer Choice) (t : Left) (f : Found) : Type 0 where
+pub record Ready (p : Pool) (a : Asked) (z : Answer Choice) (t : Left) (f : Chosen) : Type 0 where
   pub chose : z ≡ done (choice_in t f)
   pub good : sets.Good t.set
   pub below : AllBelow (length p.expressions) (members t.set)
@@ -158,13 +145,13 @@ pub record Ready (p : Pool) (a : Asked) (z : Answer Choice) (t : Left) (f : Foun
 
 -- an answer told: a refusal, or a set that is chosen
 abbrev pub Tells : Pool → Asked → Answer Choice → Left → Decided → Type 0
-Tells p a z t (decided.Refused r) = z ≡ refused (why_of r).kind (why_of r).node
-Tells p a z t (decided.Chosen f) = Ready p a z t f
+Tells p a z t (Err r) = z ≡ refused (why_of r).kind (why_of r).node
+Tells p a z t (Ok f) = Ready p a z t f
 
 -- the same of frames s
 abbrev pub TellsRead : List ℕ → Asked → Answer Choice → Left → Decided → Type 0
-TellsRead s a z t (decided.Refused r) = z ≡ refused (why_of r).kind (why_of r).node
-TellsRead s a z t (decided.Chosen f) = (i : Input) × (reading s ≡ done i) × Ready (pool_of i) a z t f
+TellsRead s a z t (Err r) = z ≡ refused (why_of r).kind (why_of r).node
+TellsRead s a z t (Ok f) = (i : Input) × (reading s ≡ done i) × Ready (pool_of i) a z t f
 
 -- THE CONTRACT
 pub record DecideIs (s : List ℕ) (a : Asked) (c : Contexts) (t : Left) (r : Decided) : Type 0 where
@@ -205,11 +192,6 @@ AdmittedGiven w l x a k t r =
 abbrev pub ExtendAsked : List ℕ → List ℕ → List ℕ → List ℕ → List ℕ → Counts → Type 0
 ExtendAsked w l x ids s k = ExtendAsks w l x ids (members s) k.nodes k.expressions
 
-abbrev pub ExtendGiven : List ℕ → List ℕ → List ℕ → List ℕ → Asking → ℕ → Counts → Left → Extended → Type 0
+abbrev pub ExtendGiven : List ℕ → List ℕ → List ℕ → List ℕ → Asking → ℕ → Counts → Left → Result ℕ code.Refusal → Type 0
 ExtendGiven w l x ids a q k t r =
     Gives w l x ids (members t.set) a.vc (columns_with a.before q) k.nodes k.expressions t.nodes t.literals t.expressions r
-
-abbrev pub decided_by : Extended → ℕ → ℕ → ℕ → Decided
-decided_by extended.Full q v m = decided.Refused why.Full
-decided_by extended.Counts q v m = decided.Refused why.Counts
-decided_by (extended.Added n) q v m = decided.Chosen (record { q = q; visits = v; nodes = n; expressions = m + 1 })

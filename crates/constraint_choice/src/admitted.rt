@@ -1,13 +1,13 @@
 // An admitted pool searched, and the constraint of the set that was chosen added to its tables.
 ghost use Rattle.constraint_choice.specs.Choosing.{asked_by, tables, AdmittedAsks, AdmittedGiven, ExtendAsked, ExtendGiven};
 
-use crate::answer::{Asking, Decided, Refused, tell, with_quotients};
+use crate::answer::{Asking, Chosen};
 use constraint_frames::members::list_members;
-use constraint_pool::entry::{Extended, extend};
+use constraint_pool::entry::extend;
 use degree_search::admitted::search_admitted;
-use degree_search::choose::Searched;
 use frames::count::{Counts, EXPRESSION_LIMIT, NODE_LIMIT};
 use frames::tables::NODE_WORDS;
+use kinds::refusal::{Refusal, Refused};
 use sets::SET_WORDS;
 
 // The set of a search that gave q.
@@ -20,13 +20,12 @@ fn extend_chosen(
     a: Asking,
     q: u64,
     k: Counts,
-) -> Extended
+) -> Result<usize, Refusal>
     requires { ExtendAsked nodes.old literals.old expressions.old identities.now set.now k }
     ensures { ExtendGiven nodes.old literals.old expressions.old identities.now a q k (tables set.now nodes.new literals.new expressions.new) result }
 {
     let mut members = [0u64; EXPRESSION_LIMIT];
     let count = list_members(set, &mut members);
-    let before = a.before;
     extend(
         nodes,
         literals,
@@ -34,7 +33,7 @@ fn extend_chosen(
         identities,
         &members[..count],
         a.vc,
-        with_quotients(before, q),
+        a.before.with_quotients(q),
         k.nodes,
         k.expressions,
     )
@@ -48,11 +47,11 @@ pub fn choose(
     a: Asking,
     k: Counts,
     set: &mut [u64; SET_WORDS],
-) -> Decided
+) -> Result<Chosen, Refused>
     requires { AdmittedAsks nodes.old literals.old expressions.old k }
     ensures { AdmittedGiven nodes.old literals.old expressions.old (asked_by identities.now a) k (tables set.new nodes.new literals.new expressions.new) result }
 {
-    match search_admitted(
+    let found = search_admitted(
         nodes,
         expressions,
         identities,
@@ -62,20 +61,12 @@ pub fn choose(
         a.limit,
         k.nodes,
         k.expressions,
-    ) {
-        Searched::ChildCount(i) => Decided::Refused(Refused::ChildCount(i)),
-        Searched::NotThere(i) => Decided::Refused(Refused::NotThere(i)),
-        Searched::Lost => Decided::Refused(Refused::Lost),
-        Searched::Cycle(i) => Decided::Refused(Refused::Cycle(i)),
-        Searched::NoIdentity => Decided::Refused(Refused::NoIdentity),
-        Searched::Bits => Decided::Refused(Refused::Bits),
-        Searched::BadKind => Decided::Refused(Refused::BadKind),
-        Searched::OverLimit => Decided::Refused(Refused::OverLimit),
-        Searched::NoSet => Decided::Refused(Refused::NoSet),
-        Searched::NoQuotient => Decided::Refused(Refused::NoQuotient),
-        Searched::Found { q, visits } => {
-            let e = extend_chosen(nodes, literals, expressions, identities, set, a, q, k);
-            tell(e, q, visits, k.expressions)
-        }
-    }
+    )?;
+    let end = extend_chosen(nodes, literals, expressions, identities, set, a, found.q, k)?;
+    Ok(Chosen {
+        q: found.q,
+        visits: found.visits,
+        nodes: end,
+        expressions: k.expressions + 1,
+    })
 }

@@ -7,8 +7,13 @@ use mathlib.Core.Option.{Option, none}
 use mathlib.Core.List.{List}
 use native.Mathlib.Omega.{arith}
 use lib.ListN.{length, get_or, drop}
-use lib.Dec.{leb}
-use borrow.Author.Tests.{lt-ltb, le-ltb, leb-true}
+use lib.Dec.{eqb, leb}
+use Rattle.std.specs.Prelude as std
+use Rattle.std.specs.Prelude.{Some, None, Result, Ok, Err}
+use Rattle.kinds.specs.Answers.{blaming_none}
+use Rattle.kinds.specs.declared.refusal.Refusal as code
+use Rattle.kinds.specs.declared.refusal.Refusal.TheVariants as told
+use borrow.Author.Tests.{lt-ltb, le-ltb, leb-true, eqb-true, eqb-false}
 use Rattle.meaning.specs.Refusals.{Refusal, Answer, done, refused, ◌then◌}
 use Rattle.meaning.specs.Trees.{Forest}
 use Rattle.meaning.proofs.Laws.Tests.{and_left, and_right, done-not-refused}
@@ -29,17 +34,11 @@ use Rattle.constraint_pool.specs.Added.{added_pool}
 use Rattle.constraint_pool.specs.Extending.{ExtendAsks, Gives, TablesAfter, extended_says}
 use Rattle.constraint_pool.proofs.Verdicts.{constraint-asks}
 use Rattle.constraint_pool.specs.declared.judge.Columns.{Columns}
-use Rattle.constraint_pool.specs.declared.entry.Extended.{Extended}
-use Rattle.constraint_pool.specs.declared.entry.Extended.TheVariants as extended
 use Rattle.pool_frames.specs.Pools.{pool_in, PoolAsks, Writes}
-use Rattle.pool_frames.specs.declared.pool.Written.{Written}
-use Rattle.pool_frames.specs.declared.pool.Written.TheVariants as written
 use Rattle.constraint_frames.specs.Formed.{input_of}
 use Rattle.constraint_frames.specs.Numbering.{NumbersAsked}
-use Rattle.constraint_frames.specs.Extension.{Question, asking, pool_with, bytes_of, numbers_of, Extension, extension, extending, constrained_says, Tells, AdmittedAsks}
+use Rattle.constraint_frames.specs.Extension.{Question, asking, pool_with, bytes_of, numbers_of, Extension, extension, extending, Constrained, constrained_says, Tells, AdmittedAsks}
 use Rattle.constraint_frames.specs.declared.answer.Numbers.{Numbers}
-use Rattle.constraint_frames.specs.declared.answer.Constrained.{Constrained}
-use Rattle.constraint_frames.specs.declared.answer.Constrained.TheVariants as told
 
 -- ---- answers
 
@@ -122,10 +121,13 @@ module _ {w l x ms : List ℕ} {n m : ℕ} (a : AdmittedAsks w l x ms n m) (ids 
   unfolding extending
   none_is h = rw (le-ltb 0 (length ids) (let z : length ids ≤ 0 = omega (arith, h) in z))
 
-  pub no_identity : length ids ≡ 0 → Tells A out out told.NoIdentity
-  no_identity h = refusal (none_is h) refl
+  pub no_identity : {e : Bool} → e ≡ eqb (length ids) 0 → e ≡ true → Tells A out out (Err (blaming_none told.NoIdentity))
+  no_identity eh q = refusal (none_is (eqb-true (length ids) 0 (sym eh ∙ q))) refl
 
-  module _ (some' : length ids ≡ 0 → ⊥) {s : Bool} (sh : s ≡ all_below m ids) where
+  module _ {e : Bool} (eh : e ≡ eqb (length ids) 0) (eq : e ≡ false) {s : Bool} (sh : s ≡ all_below m ids) where
+    some' : length ids ≡ 0 → ⊥
+    some' = eqb-false (length ids) 0 (sym eh ∙ eq)
+
     with_some : A ≡ (unless Refusal.not_there s then λ _. roomed J)
     unfolding extending
     with_some =
@@ -137,7 +139,7 @@ module _ {w l x ms : List ℕ} {n m : ℕ} (a : AdmittedAsks w l x ms n m) (ids 
         some_one : (n : ℕ) → (n ≡ 0 → ⊥) → 0 < n
         some_one n h = omega arith
 
-    pub lost : s ≡ false → Tells A out out told.Lost
+    pub lost : s ≡ false → Tells A out out (Err (blaming_none told.NotThere))
     lost q = refusal (with_some ∙ ap (λ b. unless Refusal.not_there b then λ _. roomed J) q) refl
 
     module _ (sq : s ≡ true) where
@@ -159,14 +161,11 @@ module _ {w l x ms : List ℕ} {n m : ℕ} (a : AdmittedAsks w l x ms n m) (ids 
       pub extend_asks : ExtendAsks w l x ids ms n m
       extend_asks = record { whole = whole; identities = ids_there }
 
-      module _ {w' l' x' : List ℕ} {r : Extended} (g : Gives w l x ids ms vc c n m w' l' x' r) where
-        pub limits_full : r ≡ extended.Full → Tells A out out told.Full
-        limits_full q = refusal (there ∙ ap roomed (then-refused J _ (sym (ap extended_says q) ∙ g.answer))) refl
+      module _ {w' l' x' : List ℕ} {r : Result ℕ code.Refusal} (g : Gives w l x ids ms vc c n m w' l' x' r) where
+        pub not-added : {f : code.Refusal} → r ≡ Err f → Tells A out out (Err (blaming_none f))
+        not-added q = refusal (there ∙ ap roomed (then-refused J _ (sym (ap extended_says q) ∙ g.answer))) refl
 
-        pub counts_differ : r ≡ extended.Counts → Tells A out out told.Counts
-        counts_differ q = refusal (there ∙ ap roomed (then-refused J _ (sym (ap extended_says q) ∙ g.answer))) refl
-
-        module _ {k : ℕ} (q : r ≡ extended.Added k) where
+        module _ {k : ℕ} (q : r ≡ Ok k) where
           fine : J ≡ done tt
           fine = then-passed J _ (sym (ap extended_says q) ∙ g.answer)
 
@@ -184,7 +183,7 @@ module _ {w l x ms : List ℕ} {n m : ℕ} (a : AdmittedAsks w l x ms n m) (ids 
               let p = judged_passed (forest P) n vc c ids ms fine in
               record { columns = p.columns; counts = p.counts }
 
-          module _ (v : vc < 65536) {out' : List ℕ} {y : Written} (h : Writes (frames_of (pool_in w' l' x' k (m + 1))) out y out') where
+          module _ (v : vc < 65536) {out' : List ℕ} {y : std.Option ℕ} (h : Writes (frames_of (pool_in w' l' x' k (m + 1))) out y out') where
             same : frames_of (pool_in w' l' x' k (m + 1)) ≡ B
             unfolding tabled
             same = ap (λ p. frames_of (input_of p)) (added_pool asks v a.wide adds)
@@ -195,29 +194,29 @@ module _ {w l x ms : List ℕ} {n m : ℕ} (a : AdmittedAsks w l x ms n m) (ids 
             by_room : A ≡ roomed (done tt)
             by_room = there ∙ ap roomed fine
 
-            pub no_room : y ≡ written.Full → Tells A out out' told.Full
+            pub no_room : y ≡ None → Tells A out out' (Err (blaming_none told.Full))
             no_room e = by (leb (length B) (length out)) refl
               where
-                by : (b : Bool) → leb (length B) (length out) ≡ b → Tells A out out' told.Full
+                by : (b : Bool) → leb (length B) (length out) ≡ b → Tells A out out' (Err (blaming_none told.Full))
                 by false z =
                     let o : out' ≡ out = rw z at writes.after in
-                    subst (λ u. Tells A out u told.Full) (sym o) (refusal (by_room ∙ ap (λ b. unless Refusal.full b then λ _. done (extension P Q)) z) refl)
+                    subst (λ u. Tells A out u (Err (blaming_none told.Full))) (sym o) (refusal (by_room ∙ ap (λ b. unless Refusal.full b then λ _. done (extension P Q)) z) refl)
                 by true z =
-                    let d : y ≡ written.Done (length B) = rw z at writes.answer in
+                    let d : y ≡ Some (length B) = rw z at writes.answer in
                     let z : ◌≡◌ {A = ℕ} 0 1 = cc in
                     absurd (omega arith)
 
-            pub put : {k : ℕ} → y ≡ written.Done k → {t : Numbers} → t ≡ numbers_of c (length ms) m k → Tells A out out' (told.Done t)
+            pub put : {k : ℕ} → y ≡ Some k → {t : Numbers} → t ≡ numbers_of c (length ms) m k → Tells A out out' (Ok t)
             put {k} e {t} f = by (leb (length B) (length out)) refl
               where
-                by : (b : Bool) → leb (length B) (length out) ≡ b → Tells A out out' (told.Done t)
+                by : (b : Bool) → leb (length B) (length out) ≡ b → Tells A out out' (Ok t)
                 by true z =
-                    let d : y ≡ written.Done (length B) = rw z at writes.answer in
+                    let d : y ≡ Some (length B) = rw z at writes.answer in
                     let i : k ≡ length B = cc in
                     let j : A ≡ done (extension P Q) = by_room ∙ ap (λ b. unless Refusal.full b then λ _. done (extension P Q)) z in
                     let u : t ≡ numbers_of c (length ms) (length P.expressions) (length B) = f ∙ ap₂ (numbers_of c (length ms)) (sym expressions_are) i in
                     rw j (record { says = ap done u; room = rw z at writes.after })
                 by false z =
-                    let d : y ≡ written.Full = rw z at writes.answer in
+                    let d : y ≡ None = rw z at writes.answer in
                     let z : ◌≡◌ {A = ℕ} 0 1 = cc in
                     absurd (omega arith)

@@ -7,14 +7,13 @@ use mathlib.Core.List.{List, [], ◌∷◌, ◌++◌, append-nil}
 use native.Mathlib.Omega.{arith}
 use native.Mathlib.Nat.{add-zero, zero-add}
 use native.Mathlib.Numerals.{add-one}
-use lib.ListN.{length, get_or, set, length-append, take, drop}
+use lib.ListN.{length, set, length-append, take, drop}
 use lib.Seq.{take-append_seam}
-use borrow.Author.Tests.{eq-eqb, ne_eqb}
 use Rattle.kinds.specs.Write.{write, write-none, write-is, write-next, write-length}
-use Rattle.search_meaning.specs.Search.{member, all_below}
+use Rattle.search_meaning.specs.Search.{member}
 use Rattle.sets.specs.Members.{those, bit, members}
 use Rattle.sets.proofs.Bits.{member-those}
-use Rattle.constraint_frames.specs.Listing.{Listed, set_good}
+use Rattle.constraint_frames.specs.Listing.{Listed}
 
 -- ---- one more
 
@@ -106,16 +105,3 @@ module _ {w out out' : List ℕ} {r : ℕ} (l : Listed w out out' r) (h : length
 
   pub listed_count : r ≡ length (take r out')
   listed_count = l.count ∙ sym (ap length listed_front)
-
--- ---- good words
-
--- ---- good words
-
-module _ (w ms : List ℕ) (q : ms ≡ members w) (m : ℕ) where
-  pub good_size : get_or w 8 0 ≡ length ms → {b : Bool} → b ≡ all_below m ms → b ≡ set_good m w
-  unfolding set_good
-  good_size e h = h ∙ rw (← q, eq-eqb (get_or w 8 0) (length ms) e)
-
-  pub bad_size : (get_or w 8 0 ≡ length ms → ⊥) → false ≡ set_good m w
-  unfolding set_good
-  bad_size e = rw (← q, ne_eqb (get_or w 8 0) (length ms) e)

@@ -7,6 +7,10 @@ use mathlib.Core.Option.{Option, none}
 use mathlib.Core.List.{List, []}
 use lib.ListN.{length, get_or}
 use lib.Dec.{eqb}
+use Rattle.std.specs.Prelude.{Result, Ok, Err}
+use Rattle.kinds.specs.Answers.{blaming_none}
+use Rattle.kinds.specs.declared.refusal.Refusal.TheVariants as told
+use Rattle.kinds.specs.declared.refusal.Refused.{Refused}
 use Rattle.meaning.specs.Refusals.{Refusal, Answer, done, refused, ◌then◌}
 use Rattle.meaning.proofs.Laws.Tests.{and_right, done-same, done-not-refused}
 use Rattle.frames.specs.Order.{Input}
@@ -16,15 +20,10 @@ use Rattle.frames.specs.Reading.{reading, held, Fills}
 use Rattle.frames.specs.Written.{WellFormed}
 use Rattle.frames.specs.Limits.{read-within}
 use Rattle.frames.specs.declared.count.Counts.{Counts}
-use Rattle.frames.specs.declared.count.Blame.{Blame}
-use Rattle.frames.specs.declared.count.Reading.{Reading}
-use Rattle.frames.specs.declared.count.Reading.TheVariants as was
 use Rattle.pool.specs.Pool.{Pool}
 use Rattle.pool.specs.Verdict.{Verdict}
 use Rattle.pool.specs.Exactly.{exactly_0}
 use Rattle.pool.specs.Admitting.{Admits, Fits, verdict_says}
-use Rattle.pool.specs.declared.admit.Admission.{Admission}
-use Rattle.pool.specs.declared.admit.Verdict as admit
 use Rattle.pool.specs.Tabled.{tabled}
 use Rattle.pool.specs.Ranking.{Tabling}
 use Rattle.pool.specs.Numbered.{pool_of}
@@ -37,9 +36,7 @@ use Rattle.pool_frames.specs.Writable.{read-formed}
 use Rattle.constraint_frames.specs.Formed.{input_of}
 use Rattle.constraint_frames.specs.Listing.{set_good}
 use Rattle.constraint_frames.specs.Backward.{back-tables, accepted, shaped-few}
-use Rattle.constraint_frames.specs.Extension.{Question, asking, Extension, extending, OrMalformed, Answers, constrained_says, Tells, Back, ConstrainIs, AdmittedAsks, ReadAsks}
-use Rattle.constraint_frames.specs.declared.answer.Constrained.{Constrained}
-use Rattle.constraint_frames.specs.declared.answer.Constrained.TheVariants as told
+use Rattle.constraint_frames.specs.Extension.{Question, asking, Extension, extending, OrMalformed, Answers, Constrained, constrained_says, Tells, Back, ConstrainIs, AdmittedAsks, ReadAsks}
 
 -- ---- of tables
 
@@ -67,14 +64,14 @@ module _ {w l x : List ℕ} {k : Counts} (a : ReadAsks w l x k) (ids s : List �
     answers : (z : Answer Extension) (b : Bool) → g ≡ b → OrMalformed b z ((v : Answer (Unit {0})) × Verdict P [] v × (z ≡ (v then λ _. extending P Q (length out)))) → Answers P s Q (length out) z
     answers z b e h = subst (λ b. OrMalformed b z ((v : Answer (Unit {0})) × Verdict P [] v × (z ≡ (v then λ _. extending P Q (length out))))) (sym (good-is ∙ e)) h
 
-    pub bad-set : g ≡ false → Told out told.BadSet
+    pub bad-set : g ≡ false → Told out (Err (blaming_none told.Malformed))
     bad-set e = (refused Refusal.malformed none, answers _ false e refl, record { says = refl; room = refl })
 
     module _ (e : g ≡ true) where
       pub refused-pool : {r : Refusal} {o : Option ℕ} → Verdict P [] (refused r o) → (t : Constrained) → constrained_says t ≡ refused r o → Told out t
       refused-pool {r} {o} v t h = (refused r o, answers _ true e (refused r o, v, refl), record { says = h; room = refl })
 
-      pub judged : {u : List ℕ} {d : Admission} → Admits (Tabling w l x k.nodes k.expressions) u d → u ≡ [] → {o : admit.Verdict} → d.verdict ≡ o → Verdict P [] (verdict_says o)
+      pub judged : {u : List ℕ} {d : Result (List ℕ) Refused} → Admits (Tabling w l x k.nodes k.expressions) u d → u ≡ [] → {o : Result (List ℕ) Refused} → d ≡ o → Verdict P [] (verdict_says o)
       judged = judged_as w x k (record { nodes = a.nodes; expressions = a.expressions }) l
 
       members-there : AllBelow k.expressions (members s)
@@ -98,7 +95,7 @@ module _ {w l x : List ℕ} {k : Counts} (a : ReadAsks w l x k) (ids s : List �
 
 -- ---- of what was read
 
-module _ {s : List ℕ} {u : frames.Tables} {r : Reading} (f : Fills s r u) (ids w : List ℕ) (vc : ℕ) (v : vc < 65536) (c : Columns) (out : List ℕ) where
+module _ {s : List ℕ} {u : frames.Tables} {r : Result Counts Refused} (f : Fills s r u) (ids w : List ℕ) (vc : ℕ) (v : vc < 65536) (c : Columns) (out : List ℕ) where
   abbrev Q' : Question
   Q' = asking ids (members w) vc c
 
@@ -117,13 +114,10 @@ module _ {s : List ℕ} {u : frames.Tables} {r : Reading} (f : Fills s r u) (ids
           let b : o ≡ o' = cc in
           rw (a, b)
 
-  pub malformed : {b : Blame} → r ≡ was.Malformed b → ConstrainIs s w Q' out out (told.Malformed b)
-  malformed e = unread (ap (held u) (sym e) ∙ f.answer) refl
+  pub stopped : {b : Refused} → r ≡ Err b → ConstrainIs s w Q' out out (Err b)
+  stopped e = unread (ap (held u) (sym e) ∙ f.answer) refl
 
-  pub limit : {b : Blame} → r ≡ was.Full b → ConstrainIs s w Q' out out (told.Limit b)
-  limit e = unread (ap (held u) (sym e) ∙ f.answer) refl
-
-  module _ {k : Counts} (e : r ≡ was.Read k) where
+  module _ {k : Counts} (e : r ≡ Ok k) where
     read_is : done (input_in u k) ≡ reading s
     read_is = ap (held u) (sym e) ∙ f.answer
 

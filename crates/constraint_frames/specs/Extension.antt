@@ -1,12 +1,14 @@
 -- THE POOL WITH THE CONSTRAINT, FROM BYTES: what is answered to frames, identities, the words of the set that a search chose, the number of "vc" and the columns, with
 -- room for so many bytes. The order of refusals: 1 and 9 while reading, 1 of the set, 2, 3 and 4 of the pool, 17, 3 of an identity, 9 of the limits, 11, and 9 of the room.
 -- Assumes nothing: these are definitions.
-use Rattle.std.specs.Prelude.{ℕ, ◌+◌, ◌-◌, ◌≤◌, ◌≡◌, Bool, true, false, List, [], length, get_or, drop, ltb, leb}
-use Rattle.std.proofs.Math.Option.{Option, none, some}
+use Rattle.std.specs.Prelude.{ℕ, ◌+◌, ◌-◌, ◌≤◌, ◌≡◌, Bool, true, false, List, [], length, get_or, drop, ltb, leb, Result}
+use Rattle.std.proofs.Math.Option.{Option, none}
 use Rattle.meaning.specs.Refusals.{Refusal, Answer, done, refused, ◌then◌}
 use Rattle.meaning.specs.Trees.{Acyclic}
 use Rattle.kinds.specs.Write.{write}
-use Rattle.frames.specs.Order.{node_limit, expression_limit, Input, blame_answer}
+use Rattle.kinds.specs.Answers.{answer_of}
+use Rattle.kinds.specs.declared.refusal.Refused.{Refused}
+use Rattle.frames.specs.Order.{node_limit, expression_limit, Input}
 use Rattle.frames.specs.Reading.{reading}
 use Rattle.frames.specs.Written.{frames_of}
 use Rattle.frames.specs.declared.count.Counts.{Counts}
@@ -29,8 +31,6 @@ use Rattle.constraint_pool.specs.declared.judge.Columns.{Columns}
 use Rattle.constraint_frames.specs.Formed.{input_of}
 use Rattle.constraint_frames.specs.Listing.{set_good}
 use Rattle.constraint_frames.specs.declared.answer.Numbers.{Numbers}
-use Rattle.constraint_frames.specs.declared.answer.Constrained.{Constrained}
-use Rattle.constraint_frames.specs.declared.answer.Constrained.TheVariants as constrained
 
 -- ── the answer ───────────────────────────────────────────────────────────────
 -- what is asked for beside a pool
@@ -96,19 +96,13 @@ pub record Runs (x : Answer Input) (w : List ℕ) (q : Question) (room : ℕ) (a
   pub judged : (i : Input) → x ≡ done i → Answers (pool_of i) w q room a
 
 -- ── what is told, and what stands after it ───────────────────────────────────
--- WHAT Constrained SAYS
+-- the numbers, or the refusal with the node to blame; a root or an identity that is not there has none
+abbrev pub Constrained : Type 0
+Constrained = Result Numbers Refused
+
+-- WHAT IS SAID
 abbrev pub constrained_says : Constrained → Answer Numbers
-constrained_says (constrained.Malformed b) = refused Refusal.malformed (blame_answer b)
-constrained_says (constrained.Limit b) = refused Refusal.full (blame_answer b)
-constrained_says constrained.BadSet = refused Refusal.malformed none
-constrained_says (constrained.ChildCount i) = refused Refusal.child_count (some i)
-constrained_says (constrained.NotThere i) = refused Refusal.not_there (some i)
-constrained_says constrained.Lost = refused Refusal.not_there none
-constrained_says (constrained.Cycle i) = refused Refusal.cycle (some i)
-constrained_says constrained.NoIdentity = refused Refusal.no_identity none
-constrained_says constrained.Full = refused Refusal.full none
-constrained_says constrained.Counts = refused Refusal.counts none
-constrained_says (constrained.Done n) = done n
+constrained_says = answer_of
 
 -- the frames at the front of the room; as it was on a refusal
 abbrev pub room_after : List ℕ → Answer Extension → List ℕ

@@ -18,8 +18,7 @@ use Rattle.constraint_pool.specs.Judging.{judged}
 use Rattle.constraint_pool.specs.declared.judge.Columns.{Columns}
 use Rattle.constraint_frames.specs.Laws.{tree-for}
 use Rattle.constraint_frames.specs.Listing.{set_good}
-use Rattle.constraint_frames.specs.Extension.{Question, Extension, extending, OrMalformed, Answers, Runs, constrained_says, room_after, ConstrainIs}
-use Rattle.constraint_frames.specs.declared.answer.Constrained.{Constrained}
+use Rattle.constraint_frames.specs.Extension.{Question, Extension, extending, OrMalformed, Answers, Runs, Constrained, constrained_says, room_after, ConstrainIs}
 
 -- ---- one answer
 

@@ -4,7 +4,6 @@ ghost use Rattle.constraint_frames.specs.Extension.{numbers_of};
 ghost use Rattle.constraint_frames.specs.Numbering.{NumbersAsked};
 
 use constraint_pool::judge::Columns;
-use frames::count::Blame;
 
 // The constraint's number among the expressions, the columns with it, and how many bytes the frames have.
 #[derive(Clone, Copy)]
@@ -17,34 +16,20 @@ pub struct Numbers {
     pub size: usize,
 }
 
-// The numbers, or the refusal with the node to blame; a root or an identity that is not there has none.
-#[derive(Clone, Copy)]
-pub enum Constrained {
-    Malformed(Blame),
-    Limit(Blame),
-    BadSet,
-    ChildCount(usize),
-    NotThere(usize),
-    Lost,
-    Cycle(usize),
-    NoIdentity,
-    Full,
-    Counts,
-    Done(Numbers),
-}
-
-// With so many members, in a pool that had `m` expressions.
-pub fn tell(c: Columns, members: usize, m: usize, size: usize) -> Numbers
-    requires { NumbersAsked c members }
-    ensures { result ≡ numbers_of c members m size }
-{
-    let first_q = c.commitments + members;
-    Numbers {
-        expression: m,
-        n_cm3: first_q - c.n_cm1 - c.n_cm2,
-        n_cm4: c.quotients,
-        first_q: first_q,
-        commitments: first_q + c.quotients,
-        size: size,
+impl Numbers {
+    // With so many members, in a pool that had `m` expressions.
+    pub fn of(c: Columns, members: usize, m: usize, size: usize) -> Numbers
+        requires { NumbersAsked c members }
+        ensures { result ≡ numbers_of c members m size }
+    {
+        let first_q = c.commitments + members;
+        Numbers {
+            expression: m,
+            n_cm3: first_q - c.n_cm1 - c.n_cm2,
+            n_cm4: c.quotients,
+            first_q,
+            commitments: first_q + c.quotients,
+            size,
+        }
     }
 }

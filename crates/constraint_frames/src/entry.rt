@@ -1,16 +1,17 @@
 // The pool with the constraint, from frames. The caller vouches for nothing, and on a refusal nothing lent has changed.
 ghost use Rattle.constraint_frames.specs.Extension.{AdmittedAsks, AdmittedGiven, ReadAsks, ReadGiven, ConstrainGiven};
 
-use crate::answer::{Constrained, tell};
+use crate::answer::Numbers;
 use crate::members::{is_good, list_members};
-use constraint_pool::entry::{Extended, extend};
+use constraint_pool::entry::extend;
 use constraint_pool::judge::Columns;
 use degree_search::admitted::all_below;
-use frames::count::{Counts, EXPRESSION_LIMIT, NODE_LIMIT, REQUEST_LIMIT, Reading};
+use frames::count::{Counts, EXPRESSION_LIMIT, NODE_LIMIT, REQUEST_LIMIT};
 use frames::read::fill;
 use frames::tables::NODE_WORDS;
-use pool::admit::{Verdict, admit};
-use pool_frames::pool::{Written, write_pool};
+use kinds::refusal::{Refusal, Refused};
+use pool::admit::admit;
+use pool_frames::pool::write_pool;
 use sets::SET_WORDS;
 
 // An admitted pool of `n` nodes and `m` expressions, in tables of the caller's own.
@@ -25,17 +26,17 @@ fn extend_admitted(
     n: usize,
     m: usize,
     out: &mut [u8],
-) -> Constrained
+) -> Result<Numbers, Refused>
     requires { AdmittedAsks nodes.old literals.old expressions.old members.now n m }
     ensures { AdmittedGiven nodes.old literals.old expressions.old identities.now members.now vc c n m out.old out.new result }
 {
-    if identities.len() == 0 {
-        return Constrained::NoIdentity;
+    if identities.is_empty() {
+        return Err(Refusal::NoIdentity.into());
     }
     if !all_below(identities, m) {
-        return Constrained::Lost;
+        return Err(Refusal::NotThere.into());
     }
-    match extend(
+    let end = extend(
         nodes,
         literals,
         expressions,
@@ -45,16 +46,9 @@ fn extend_admitted(
         c,
         n,
         m,
-    ) {
-        Extended::Full => Constrained::Full,
-        Extended::Counts => Constrained::Counts,
-        Extended::Added(end) => {
-            match write_pool(nodes, literals, expressions, end, m + 1, out) {
-                Written::Full => Constrained::Full,
-                Written::Done(size) => Constrained::Done(tell(c, members.len(), m, size)),
-            }
-        }
-    }
+    )?;
+    let size = write_pool(nodes, literals, expressions, end, m + 1, out).ok_or(Refusal::Full)?;
+    Ok(Numbers::of(c, members.len(), m, size))
 }
 
 fn extend_read(
@@ -67,36 +61,28 @@ fn extend_read(
     c: Columns,
     k: Counts,
     out: &mut [u8],
-) -> Constrained
+) -> Result<Numbers, Refused>
     requires { ReadAsks nodes.old literals.old expressions.old k }
     ensures { ReadGiven nodes.old literals.old expressions.old identities.now chosen.now vc c k out.old out.new result }
 {
     let mut members = [0u64; EXPRESSION_LIMIT];
     let count = list_members(chosen, &mut members);
     if !is_good(chosen, &members[..count], k.expressions) {
-        return Constrained::BadSet;
+        return Err(Refusal::Malformed.into());
     }
-    let no_table = [0u8; 0];
-    let admission = admit(nodes, expressions, &no_table, k.nodes, k.expressions);
-    let verdict = admission.verdict;
-    match verdict {
-        Verdict::ChildCount(i) => Constrained::ChildCount(i),
-        Verdict::NotThere(i) => Constrained::NotThere(i),
-        Verdict::LostRoot => Constrained::Lost,
-        Verdict::Cycle(i) => Constrained::Cycle(i),
-        Verdict::Admitted => extend_admitted(
-            nodes,
-            literals,
-            expressions,
-            identities,
-            &members[..count],
-            vc,
-            c,
-            k.nodes,
-            k.expressions,
-            out,
-        ),
-    }
+    admit(nodes, expressions, &[], k.nodes, k.expressions)?;
+    extend_admitted(
+        nodes,
+        literals,
+        expressions,
+        identities,
+        &members[..count],
+        vc,
+        c,
+        k.nodes,
+        k.expressions,
+        out,
+    )
 }
 
 // Frames, each behind its length; requests among them are read and not served. `chosen` is the set as a search gave it: one that is not good for this pool is a
@@ -108,32 +94,29 @@ pub fn constrain_pool(
     vc: u16,
     c: Columns,
     out: &mut [u8],
-) -> Constrained
+) -> Result<Numbers, Refused>
     ensures { ConstrainGiven s.now identities.now chosen.now vc c out.old out.new result }
 {
     let mut nodes = [0u64; NODE_WORDS];
     let mut literals = [0u64; NODE_LIMIT];
     let mut expressions = [0u64; EXPRESSION_LIMIT];
     let mut requests = [0u64; REQUEST_LIMIT];
-    match fill(
+    let k = fill(
         s,
         &mut nodes,
         &mut literals,
         &mut expressions,
         &mut requests,
-    ) {
-        Reading::Malformed(b) => Constrained::Malformed(b),
-        Reading::Full(b) => Constrained::Limit(b),
-        Reading::Read(k) => extend_read(
-            &mut nodes,
-            &mut literals,
-            &mut expressions,
-            identities,
-            chosen,
-            vc,
-            c,
-            k,
-            out,
-        ),
-    }
+    )?;
+    extend_read(
+        &mut nodes,
+        &mut literals,
+        &mut expressions,
+        identities,
+        chosen,
+        vc,
+        c,
+        k,
+        out,
+    )
 }

@@ -29,8 +29,5 @@ pub fn is_good(set: &[u64; SET_WORDS], members: &[u64], m: usize) -> bool
     requires { members.now ≡ numbers set.now }
     ensures { result ≡ set_good m set.now }
 {
-    if set[SIZE] == members.len() as u64 {
-        return all_below(members, m);
-    }
-    false
+    set[SIZE] == members.len() as u64 && all_below(members, m)
 }

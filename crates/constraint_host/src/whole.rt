@@ -1,52 +1,18 @@
 // `generate_constraint_polynomial` in one call.
 ghost use Rattle.std.specs.Prelude.{◌≡◌};
-ghost use Rattle.meaning.specs.Refusals.{answer_no};
 ghost use Rattle.codegen.specs.Building.{lists};
 ghost use Rattle.constraint_build.specs.Both.{lent};
-ghost use Rattle.starkinfo_cp_prover.specs.Polynomial.{asked, generated_says};
-ghost use Rattle.constraint_host.specs.Whole.{before, found_told, sizes_set, totals_told, ConstraintNumbered};
+ghost use Rattle.starkinfo_cp_prover.specs.Polynomial.{asked};
+ghost use Rattle.constraint_host.specs.Whole.{before, sizes_set, ConstraintNumbered};
 
 use constraint_build::answer::Sizes;
 use constraint_choice::answer::{Asking, Before};
-use kinds::refusal::{
-    BITS, CHILD_COUNT, COUNTS, CYCLE, DOUBLE_PRIME, FULL, MALFORMED, NO_IDENTITY, NO_QUOTIENT,
-    NO_SET, NONE, NOT_THERE, SEARCH_KIND, VISITS,
-};
+use kinds::refusal::answer_number;
 use sets::SET_WORDS;
-use starkinfo_cp_prover::answer::Generated;
 use starkinfo_cp_prover::entry::generate_constraint_polynomial;
 
 // The steps of the six lists, and the bytes of the frames.
 pub const TOTALS: usize = 7;
-
-fn generated_number(r: Generated) -> u8
-    ensures { result ≡ answer_no (generated_says r) }
-{
-    match r {
-        Generated::Malformed(_) => MALFORMED,
-        Generated::Limit(_) => FULL,
-        Generated::BadContext => MALFORMED,
-        Generated::ChildCount(_) => CHILD_COUNT,
-        Generated::NotThere(_) => NOT_THERE,
-        Generated::Lost => NOT_THERE,
-        Generated::Cycle(_) => CYCLE,
-        Generated::NoIdentity => NO_IDENTITY,
-        Generated::Bits => BITS,
-        Generated::BadKind => SEARCH_KIND,
-        Generated::OverLimit => VISITS,
-        Generated::NoSet => NO_SET,
-        Generated::NoQuotient => NO_QUOTIENT,
-        Generated::Full => FULL,
-        Generated::Counts => COUNTS,
-        Generated::DoublePrime(_) => DOUBLE_PRIME,
-        Generated::Done {
-            q: _,
-            visits: _,
-            sizes: _,
-            bytes: _,
-        } => NONE,
-    }
-}
 
 fn set_sizes(s: Sizes, bytes: usize, totals: &mut [usize; TOTALS])
     ensures { totals.new ≡ sizes_set s bytes totals.old }
@@ -58,67 +24,6 @@ fn set_sizes(s: Sizes, bytes: usize, totals: &mut [usize; TOTALS])
     totals[4] = s.i_2ns;
     totals[5] = s.last_2ns;
     totals[6] = bytes;
-}
-
-fn tell_totals(r: Generated, totals: &mut [usize; TOTALS])
-    ensures { totals.new ≡ totals_told (generated_says r) totals.old }
-{
-    match r {
-        Generated::Done {
-            q: _,
-            visits: _,
-            sizes,
-            bytes,
-        } => set_sizes(sizes, bytes, totals),
-        Generated::Malformed(_) => {}
-        Generated::Limit(_) => {}
-        Generated::BadContext => {}
-        Generated::ChildCount(_) => {}
-        Generated::NotThere(_) => {}
-        Generated::Lost => {}
-        Generated::Cycle(_) => {}
-        Generated::NoIdentity => {}
-        Generated::Bits => {}
-        Generated::BadKind => {}
-        Generated::OverLimit => {}
-        Generated::NoSet => {}
-        Generated::NoQuotient => {}
-        Generated::Full => {}
-        Generated::Counts => {}
-        Generated::DoublePrime(_) => {}
-    }
-}
-
-fn tell_found(r: Generated, found: &mut [u64; 2])
-    ensures { found.new ≡ found_told (generated_says r) found.old }
-{
-    match r {
-        Generated::Done {
-            q,
-            visits,
-            sizes: _,
-            bytes: _,
-        } => {
-            found[0] = q;
-            found[1] = visits;
-        }
-        Generated::Malformed(_) => {}
-        Generated::Limit(_) => {}
-        Generated::BadContext => {}
-        Generated::ChildCount(_) => {}
-        Generated::NotThere(_) => {}
-        Generated::Lost => {}
-        Generated::Cycle(_) => {}
-        Generated::NoIdentity => {}
-        Generated::Bits => {}
-        Generated::BadKind => {}
-        Generated::OverLimit => {}
-        Generated::NoSet => {}
-        Generated::NoQuotient => {}
-        Generated::Full => {}
-        Generated::Counts => {}
-        Generated::DoublePrime(_) => {}
-    }
 }
 
 // Searches, adds the constraint to the pool, and makes step3 in the first context and step42ns in the second: all of it or nothing. Says q and the visits, how many steps
@@ -162,7 +67,7 @@ pub fn enonkasse_constraint(
         limit,
         before,
     };
-    let r = generate_constraint_polynomial(
+    let generated = generate_constraint_polynomial(
         frames,
         identities,
         a,
@@ -179,7 +84,10 @@ pub fn enonkasse_constraint(
         out,
         chosen,
     );
-    tell_found(r, found);
-    tell_totals(r, totals);
-    generated_number(r)
+    if let Ok(made) = generated {
+        found[0] = made.q;
+        found[1] = made.visits;
+        set_sizes(made.sizes, made.bytes, totals);
+    }
+    answer_number(&generated)
 }

@@ -6,6 +6,7 @@ use mathlib.Core.Bool.{Bool, true, false}
 use mathlib.Core.List.{List}
 use native.Mathlib.Omega.{arith}
 use lib.ListN.{length}
+use Rattle.std.specs.Prelude.{None}
 use Rattle.meaning.specs.Order.{Job}
 use Rattle.meaning.proofs.Laws.Tests.{and_left}
 use Rattle.kinds.specs.Write.{write}
@@ -26,10 +27,8 @@ use Rattle.codegen.specs.Building.{Lists, fits_all, lists_with}
 use Rattle.codegen.proofs.Coded.{code-room}
 use Rattle.codegen.proofs.Ends.{Fitting, fits_all_lem}
 use Rattle.constraint_lists.specs.Lists.{Written}
-use Rattle.constraint_lists.specs.Measuring.{closed_words, closed_more, CloseWordsAsks, final_said, RoomsAsk, segment_in, RoomsGiven, MeasureAsks, Measures}
+use Rattle.constraint_lists.specs.Measuring.{Measured, closed_words, closed_more, CloseWordsAsks, final_said, RoomsAsk, segment_in, RoomsGiven, MeasureAsks, Measures}
 use Rattle.constraint_lists.specs.Writing.{closed_bytes, CloseListAsks, CopiesAsk, WriteAsks}
-use Rattle.constraint_lists.specs.declared.measure.Measured.{Measured}
-use Rattle.constraint_lists.specs.declared.measure.Measured.TheVariants as measured
 use Rattle.constraint_lists.proofs.Finals.{more-few}
 use Rattle.constraint_lists.proofs.Rooms as rooms
 
@@ -46,7 +45,7 @@ module _ {w xs : List ℕ} {b : Rest} {js : List Job} {j s t x l : List ℕ} {m 
     fits-is : fits (length l) (ak + v + mo) (tk + (v - n)) ≡ fits (length l) (count_in x + v + closed_more closes (blocks_in x + n)) (temporaries_in x + (v - n))
     fits-is = rw (rm, rb.is, ra.is, rt.is)
 
-    pub code-full : (o : Lists) (t₁ : List ℕ) → fits (length l) (ak + v + mo) (tk + (v - n)) ≡ false → Measures (E w xs b) js closes s t t₁ x l o n measured.Full
+    pub code-full : (o : Lists) (t₁ : List ℕ) → fits (length l) (ak + v + mo) (tk + (v - n)) ≡ false → Measures (E w xs b) js closes s t t₁ x l o n None
     code-full o t₁ h = rooms.no_room p z closes o t₁ (sym fits-is ∙ h)
 
     module _ (h : fits (length l) (ak + v + mo) (tk + (v - n)) ≡ true) {t₁ : List ℕ} (e₁ : t₁ ≡ write t bk (block_words (E w xs b) js)) where

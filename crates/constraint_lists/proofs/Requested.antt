@@ -11,6 +11,8 @@ use lib.ListN.{length, get_or, set, length-set}
 use lib.Seq.{get_or-set_same, get_or-set_other, ext_get_or}
 use lib.Dec.{eqb}
 use borrow.Author.Tests.{eqb-true, eqb-false}
+use Rattle.std.specs.Prelude.{Result, Ok, Err}
+use Rattle.kinds.specs.declared.refusal.Refused.{Refused}
 use Rattle.meaning.specs.Refusals.{Answer, done, ◌then◌}
 use Rattle.meaning.specs.Trees.{Forest, Acyclic, Each}
 use Rattle.meaning.specs.Order.{Asked}
@@ -30,8 +32,6 @@ use Rattle.starkinfo_codegen.specs.Requests.{start-state}
 use Rattle.requests.specs.Planning.{request_of, request_at, requests_in, Adds, Says, PlanAsks}
 use Rattle.requests.specs.Making.{JobThere}
 use Rattle.requests.specs.Jobs.{jobs-ask, jobs-there, jobs-once}
-use Rattle.requests.specs.declared.plan.Plan.{Plan}
-use Rattle.requests.specs.declared.plan.Plan.TheVariants as plan
 use Rattle.context.specs.Context.{cells, blocks_in, steps_in, Good}
 use Rattle.context.specs.Tables.{marks_in, words_in}
 use Rattle.context.specs.Held.{word_cell, Sound}
@@ -202,11 +202,10 @@ module _ {w xs : List ℕ} {b : Rest} {A : Acyclic (forest (pool_of w b))} {ms q
 
     -- WHAT A PLAN SAYS OF THE LIST
     pub plan-says :
-        (s' j j' : List ℕ) (p : Plan) → length j ≡ cells → Says (ask_all 2 F (requests_in r (length qs)) (marks_of s)) s' j j' 0 p → PlanSays w xs b ms qs x s' t j' room p
-    plan-says s' j j' (plan.Jobs n) size d = record {
+        (s' j j' : List ℕ) (p : Result ℕ Refused) → length j ≡ cells → Says (ask_all 2 F (requests_in r (length qs)) (marks_of s)) s' j j' 0 p → PlanSays w xs b ms qs x s' t j' room p
+    plan-says s' j j' (Ok n) size d = record {
       jobs = d.jobs;
       ready = ready size d;
       is = λ l closes. list-is l closes ∙ rw d.is;
     }
-    plan-says s' j j' plan.NotThere size h = λ l closes. list-is l closes ∙ rw h
-    plan-says s' j j' (plan.DoublePrime i) size h = λ l closes. list-is l closes ∙ rw h
+    plan-says s' j j' (Err f) size h = λ l closes. list-is l closes ∙ rw h.0

@@ -10,6 +10,7 @@ use lib.ListN.{length, drop, replicate, length-append, length-replicate, length-
 use lib.Seq.{ext_get_or, get_or-drop}
 use lib.Dec.{leb}
 use borrow.Author.Tests.{leb-true}
+use Rattle.std.specs.Prelude.{Some, None}
 use Rattle.meaning.specs.Refusals.{Refusal, done, refused}
 use Rattle.meaning.specs.Order.{Job}
 use Rattle.meaning.proofs.Laws.Tests.{and_left, and_right}
@@ -36,10 +37,8 @@ use Rattle.codegen.specs.Building.{Lists, lists, fits_all, sizes, lists_with}
 use Rattle.codegen.proofs.Commits.{G, B, at, T, t', after, full', added, longer-steps, some-step, sound, counter-after}
 use Rattle.codegen.proofs.Ends.{Fitting, fits_all_lem, start-after}
 use Rattle.constraint_lists.specs.Lists.{closed_blocks, room_for, Written}
-use Rattle.constraint_lists.specs.Measuring.{closed_words, closed_more, CloseWordsAsks, final_said, measured_says, RoomsAsk, segment_in, RoomsGiven, MeasureAsks, WordsAre, Measures}
+use Rattle.constraint_lists.specs.Measuring.{Measured, closed_words, closed_more, CloseWordsAsks, final_said, measured_says, RoomsAsk, segment_in, RoomsGiven, MeasureAsks, WordsAre, Measures}
 use Rattle.constraint_lists.specs.Writing.{closed_bytes, CloseListAsks, CopiesAsk}
-use Rattle.constraint_lists.specs.declared.measure.Measured.{Measured}
-use Rattle.constraint_lists.specs.declared.measure.Measured.TheVariants as measured
 use Rattle.constraint_lists.proofs.Finals.{words_size, bytes-size, bytes_past, Stepped, final-start, final-count, final-blocks, final-put}
 
 -- ── the three lists ──────────────────────────────────────────────────────────
@@ -60,26 +59,26 @@ module _ (e : List ℕ) {t : List ℕ} {n m steps : ℕ} (a : RoomsAsk t n m ste
     fits-is : (l : List ℕ) → fits_all o (segment_in e t l n m) ≡ (leb (step_size * steps) (length o.first) && (leb (step_size * vi) (length o.i) && leb (step_size * vl) (length o.last)))
     fits-is l = fits_by o (segment_in e t l n m) steps vi vl (first-size e t l n m ∙ a.all) (sym (hi l)) (sym (hl l))
 
-    full_by : ((l : List ℕ) → fits_all o (segment_in e t l n m) ≡ false) → RoomsGiven e t o n m measured.Full
+    full_by : ((l : List ℕ) → fits_all o (segment_in e t l n m) ≡ false) → RoomsGiven e t o n m None
     full_by h l = sym (ap (λ v. cond v (done (sizes (segment_in e t l n m))) (refused Refusal.full none)) (h l))
 
     module _ {r₁ : Bool} (h₁ : r₁ ≡ leb (step_size * steps) (length o.first)) where
-      pub first-over : r₁ ≡ false → RoomsGiven e t o n m measured.Full
+      pub first-over : r₁ ≡ false → RoomsGiven e t o n m None
       first-over g = full_by (λ l. fits-is l ∙ rw (sym h₁ ∙ g))
 
       module _ (g₁ : r₁ ≡ true) {r₂ : Bool} (h₂ : r₂ ≡ leb (step_size * vi) (length o.i)) where
-        pub i-over : r₂ ≡ false → RoomsGiven e t o n m measured.Full
+        pub i-over : r₂ ≡ false → RoomsGiven e t o n m None
         i-over g = full_by (λ l. fits-is l ∙ rw (sym h₁ ∙ g₁, sym h₂ ∙ g))
 
         module _ (g₂ : r₂ ≡ true) {r₃ : Bool} (h₃ : r₃ ≡ leb (step_size * vl) (length o.last)) where
-          pub last-over : r₃ ≡ false → RoomsGiven e t o n m measured.Full
+          pub last-over : r₃ ≡ false → RoomsGiven e t o n m None
           last-over g = full_by (λ l. fits-is l ∙ rw (sym h₁ ∙ g₁, sym h₂ ∙ g₂, sym h₃ ∙ g))
 
-          pub all_fit : r₃ ≡ true → RoomsGiven e t o n m (measured.Sizes steps vi vl)
+          pub all_fit : r₃ ≡ true → RoomsGiven e t o n m (Some (record { first = steps; i = vi; last = vl }))
           all_fit g₃ l =
               let S = segment_in e t l n m in
               let yes : fits_all o S ≡ true = fits-is l ∙ rw (sym h₁ ∙ g₁, sym h₂ ∙ g₂, sym h₃ ∙ g₃) in
-              let sz : measured_says (measured.Sizes steps vi vl) ≡ done (sizes S)
+              let sz : measured_says (Some (record { first = steps; i = vi; last = vl })) ≡ done (sizes S)
               = ap (λ k. done (record { first = k; i = vi; last = vl })) (sym (first-size e t l n m ∙ a.all))
               ∙ ap (λ k. done (record { first = length S.first; i = k; last = vl })) (hi l)
               ∙ ap (λ k. done (record { first = length S.first; i = length S.i; last = k })) (hl l) in
@@ -147,7 +146,7 @@ module _ {w xs : List ℕ} {b : Rest} {js : List Job} {j s t x l : List ℕ} {m 
   fits-final = rw (count-is, counter_is)
 
   -- 9 of the context's list
-  pub no_room : (o : Lists) (t₁ : List ℕ) → fits (length l) steps counter ≡ false → Measures (G a) js closes s t t₁ x l o n measured.Full
+  pub no_room : (o : Lists) (t₁ : List ℕ) → fits (length l) steps counter ≡ false → Measures (G a) js closes s t t₁ x l o n None
   no_room o t₁ h = record {
     words = tt;
     says = sym (ap (λ q. cond (q && fits_all o (segment_said (G a) st)) (done (sizes (segment_said (G a) st))) (refused Refusal.full none)) (fits-final ∙ h));
@@ -204,8 +203,8 @@ module _ {w xs : List ℕ} {b : Rest} {js : List Job} {j s t x l : List ℕ} {m 
     }
       where
         words_are : (r : Measured) → WordsAre r t₁ words
-        words_are measured.Full = tt
-        words_are (measured.Sizes f i k) = e
+        words_are None = tt
+        words_are (Some z) = e
 
     -- ── written ────────────────────────────────────────────────────────────────
     pub put-asks : CloseListAsks made (at a + v) N closes

@@ -1,6 +1,6 @@
 -- A LIST MEASURED: the words of all its blocks, and whether there is room for its steps and for the three lists.
 -- Assumes nothing: these are definitions.
-use Rattle.std.specs.Prelude.{ℕ, zero, suc, ◌+◌, ◌≤◌, ◌<◌, ◌≡◌, Bool, true, false, cond, List, length, get_or}
+use Rattle.std.specs.Prelude.{ℕ, zero, suc, ◌+◌, ◌≤◌, ◌<◌, ◌≡◌, Bool, true, false, cond, List, length, get_or, Option, Some, None}
 use Rattle.std.proofs.Math.Option.{none}
 use Rattle.meaning.specs.Refusals.{Refusal, Answer, done, refused}
 use Rattle.meaning.specs.Trees.{Forest}
@@ -15,11 +15,10 @@ use Rattle.builds.specs.Numbered.{BlocksAsk}
 use Rattle.context.specs.Context.{blocks_in}
 use Rattle.codegen.specs.Said.{Said, said, segment_said}
 use Rattle.codegen.specs.Committing.{CommitAsks, after_jobs}
-use Rattle.codegen.specs.Building.{Lists, fits_all, Sizes, sizes}
+use Rattle.codegen.specs.Building.{Lists, fits_all, sizes}
+use Rattle.codegen.specs.declared.build.Sizes.{Sizes}
 use Rattle.constraint_pieces.specs.Closed.{grown}
 use Rattle.constraint_lists.specs.Lists.{closed_if, room_for}
-use Rattle.constraint_lists.specs.declared.measure.Measured.{Measured}
-use Rattle.constraint_lists.specs.declared.measure.Measured.TheVariants as measured
 
 -- ── the closing product in words ─────────────────────────────────────────────
 -- n blocks: where there is one, the last has a step more
@@ -45,10 +44,14 @@ final_words F js closes t x n = closed_words closes (write t (blocks_in x) (bloc
 abbrev pub final_said : Forest → List Job → Bool → List ℕ → List ℕ → List ℕ → Said
 final_said F js closes s x l = closed_if closes (after_jobs F js (marks_of s) (said x l))
 
--- WHAT Measured SAYS
+-- how many steps each list has, or that there is no room
+abbrev pub Measured : Type 0
+Measured = Option Sizes
+
+-- WHAT IT SAYS
 abbrev pub measured_says : Measured → Answer Sizes
-measured_says measured.Full = refused Refusal.full none
-measured_says (measured.Sizes f i l) = done (record { first = f; i = i; last = l })
+measured_says None = refused Refusal.full none
+measured_says (Some z) = done z
 
 -- ── the three lists ──────────────────────────────────────────────────────────
 pub record RoomsAsk (t : List ℕ) (n m steps : ℕ) : Type 0 where
@@ -74,8 +77,8 @@ MeasureAsked w xs j t x l m n = (b : Rest) × (js : List Job) × (s : List ℕ) 
 
 -- where there is room, the words of all blocks
 abbrev pub WordsAre : Measured → List ℕ → List ℕ → Type 0
-WordsAre measured.Full t f = Unit {0}
-WordsAre (measured.Sizes a i l) t f = t ≡ f
+WordsAre None t f = Unit {0}
+WordsAre (Some z) t f = t ≡ f
 
 -- THE SIZES OF THE THREE LISTS, or 9
 pub record Measures (F : Forest) (js : List Job) (closes : Bool) (s t t' x l : List ℕ) (o : Lists) (n : ℕ) (r : Measured) : Type 0 where

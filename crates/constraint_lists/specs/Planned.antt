@@ -1,10 +1,11 @@
 -- A LIST PLANNED over tables: what is asked, and what a plan says of `list_said`.
 -- Assumes nothing: these are definitions.
-use Rattle.std.specs.Prelude.{ℕ, ◌≤◌, ◌<◌, ◌≡◌, Bool, List, length, get_or}
-use Rattle.std.proofs.Math.Option.{none, some}
-use Rattle.meaning.specs.Refusals.{Refusal, done, refused}
+use Rattle.std.specs.Prelude.{ℕ, ◌≤◌, ◌<◌, ◌≡◌, Bool, List, length, get_or, Result, Ok, Err}
+use Rattle.meaning.specs.Refusals.{done, refused}
 use Rattle.meaning.specs.Trees.{Acyclic}
 use Rattle.meaning.specs.Order.{Job}
+use Rattle.kinds.specs.Answers.{refusal_of, blame_of}
+use Rattle.kinds.specs.declared.refusal.Refused.{Refused}
 use Rattle.frames.specs.Order.{expression_limit, request_limit}
 use Rattle.frames.specs.Tables.{request_in}
 use Rattle.frames.specs.declared.rest.Request.{Request}
@@ -12,8 +13,6 @@ use Rattle.pool.specs.Trees.{forest}
 use Rattle.starkinfo_codegen.specs.Emitting.{Rest, pool_of, RowFits}
 use Rattle.starkinfo_codegen.specs.Ordering.{marks_of, World}
 use Rattle.requests.specs.Making.{E}
-use Rattle.requests.specs.declared.plan.Plan.{Plan}
-use Rattle.requests.specs.declared.plan.Plan.TheVariants as plan
 use Rattle.context.specs.Context.{cells, Good}
 use Rattle.codegen.specs.Said.{said}
 use Rattle.codegen.specs.Committing.{no_words, CommitAsks, after_jobs}
@@ -61,12 +60,11 @@ pub record PlannedJobs (w xs : List ℕ) (b : Rest) (ms qs x s t j : List ℕ) (
   pub is : (l : List ℕ) (closes : Bool) → list_said (E w xs b) ms qs closes (said x l) ≡ done (closed_if closes (after_jobs (E w xs b) jobs (marks_of s) (said x l)))
 
 -- WHAT A PLAN SAYS: the refusal of the list, or its jobs
-abbrev pub PlanSays : List ℕ → List ℕ → Rest → List ℕ → List ℕ → List ℕ → List ℕ → List ℕ → List ℕ → ℕ → Plan → Type 0
-PlanSays w xs b ms qs x s t j room (plan.Jobs n) = PlannedJobs w xs b ms qs x s t j room n
-PlanSays w xs b ms qs x s t j room plan.NotThere = (l : List ℕ) (closes : Bool) → list_said (E w xs b) ms qs closes (said x l) ≡ refused Refusal.not_there none
-PlanSays w xs b ms qs x s t j room (plan.DoublePrime i) = (l : List ℕ) (closes : Bool) → list_said (E w xs b) ms qs closes (said x l) ≡ refused Refusal.double_prime (some i)
+abbrev pub PlanSays : List ℕ → List ℕ → Rest → List ℕ → List ℕ → List ℕ → List ℕ → List ℕ → List ℕ → ℕ → Result ℕ Refused → Type 0
+PlanSays w xs b ms qs x s t j room (Ok n) = PlannedJobs w xs b ms qs x s t j room n
+PlanSays w xs b ms qs x s t j room (Err f) = (l : List ℕ) (closes : Bool) → list_said (E w xs b) ms qs closes (said x l) ≡ refused (refusal_of f.refusal) (blame_of f.node)
 
 -- for whichever rest of an acyclic pool: one is asked for, and the answer holds of all
-abbrev pub ListPlanGiven : List ℕ → List ℕ → List ℕ → List ℕ → List ℕ → List ℕ → List ℕ → List ℕ → ℕ → Plan → Type 0
+abbrev pub ListPlanGiven : List ℕ → List ℕ → List ℕ → List ℕ → List ℕ → List ℕ → List ℕ → List ℕ → ℕ → Result ℕ Refused → Type 0
 ListPlanGiven w xs ms qs x s t j m p =
     (b : Rest) (A : Acyclic (forest (pool_of w b))) (room : ℕ) → ListAsks w xs b A ms qs x room m → PlanSays w xs b ms qs x s t j room p

@@ -6,28 +6,14 @@ ghost use Rattle.constraint_lists.specs.Measuring.{CloseWordsAsks, closed_words,
 
 use builds::build::{Which, list_size};
 use builds::result::grow;
-use constraint_pieces::close::has_room;
+use codegen::build::{Sizes, list_fits};
+use codegen::commit::has_room;
 use context::layout::{blocks_of, steps_of, temporaries_of};
 use frames::count::EXPRESSION_LIMIT;
 use frames::tables::NODE_WORDS;
-use kinds::step::STEP_SIZE;
 use requests::make::size_all;
 use requests::place::place_all;
 use starkinfo_codegen::order::JOB_LIMIT;
-
-// How many steps each list has, or that there is no room.
-#[derive(Drop)]
-pub enum Measured {
-    Full,
-    Sizes { first: usize, i: usize, last: usize },
-}
-
-fn fits_in(out: &[u8], steps: usize) -> bool
-    requires { steps ≤ 65535 }
-    ensures { result ≡ leb (step_size * steps) (length out.now) }
-{
-    STEP_SIZE * steps <= out.len()
-}
 
 // How many steps more the closing product of n blocks is.
 fn more_steps(n: usize, closes: bool) -> usize
@@ -63,26 +49,26 @@ fn rooms(
     n: usize,
     m: usize,
     steps: usize,
-) -> Measured
+) -> Option<Sizes>
     requires { RoomsAsk words.now n m steps }
     ensures { RoomsGiven expressions.now words.now (lists first.now i.now last.now) n m result }
 {
     let without_plain = list_size(words, expressions, n, m, Which::I);
     let without_any = list_size(words, expressions, n, m, Which::Last);
-    if !fits_in(first, steps) {
-        return Measured::Full;
+    if !list_fits(first, steps) {
+        return None;
     }
-    if !fits_in(i, without_plain) {
-        return Measured::Full;
+    if !list_fits(i, without_plain) {
+        return None;
     }
-    if !fits_in(last, without_any) {
-        return Measured::Full;
+    if !list_fits(last, without_any) {
+        return None;
     }
-    Measured::Sizes {
+    Some(Sizes {
         first: steps,
         i: without_plain,
         last: without_any,
-    }
+    })
 }
 
 // The first n jobs, in a pool of m expressions. Where there is room, leaves the words of all blocks: those of the context, those of the jobs, and the last with the closing product.
@@ -99,7 +85,7 @@ pub fn measure(
     m: usize,
     n: usize,
     closes: bool,
-) -> Measured
+) -> Option<Sizes>
     requires { MeasureAsked nodes.now expressions.now jobs.now words.old context.now list.now m n }
     ensures { MeasureGiven nodes.now expressions.now jobs.now words.old words.new context.now list.now (lists first.now i.now last.now) m n closes result }
 {
@@ -109,7 +95,7 @@ pub fn measure(
     let own = size_all(nodes, expressions, jobs, n);
     let more = more_steps(blocks + n, closes);
     if !has_room(list, at + own + more, t + (own - n)) {
-        return Measured::Full;
+        return None;
     }
     place_all(nodes, expressions, jobs, words, n, blocks);
     close_words(words, blocks + n, closes);

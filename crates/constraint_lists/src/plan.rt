@@ -6,7 +6,8 @@ use context::load::{load_blocks, load_marks};
 use frames::count::{EXPRESSION_LIMIT, REQUEST_LIMIT};
 use frames::rest::Request;
 use frames::tables::{NODE_WORDS, put_request};
-use requests::plan::{Plan, plan_all};
+use kinds::refusal::Refused;
+use requests::plan::plan_all;
 use starkinfo_codegen::order::JOB_LIMIT;
 
 const THIS_ROW: u8 = 0;
@@ -40,7 +41,7 @@ pub fn plan_list(
     words: &mut [u64; JOB_LIMIT],
     jobs: &mut [u64; JOB_LIMIT],
     m: usize,
-) -> Plan
+) -> Result<usize, Refused>
     requires { ListPlanAsked nodes.now expressions.now marked.now asked.now context.now marks.old words.old jobs.old m }
     ensures { ListPlanGiven nodes.now expressions.now marked.now asked.now context.now marks.new words.new jobs.new m result }
 {

@@ -1,15 +1,17 @@
 -- The closing product put after the steps of a context that was loaded, and the answers of `close`. No word of the code.
 -- Assumes nothing.
-use Prim.Native.Nat.{ℕ, zero, suc, ◌+◌, ◌*◌, ◌-◌, ◌/◌, ◌<◌, ◌≤◌}
+use Prim.Native.Nat.{ℕ, zero, suc, ◌+◌, ◌*◌, ◌-◌, ◌<◌, ◌≤◌}
 use mathlib.Core.Path.{◌≡◌, refl, sym, ◌∙◌, ap, subst}
 use mathlib.Core.Bool.{Bool, true, false, cond}
 use mathlib.Core.Option.{none}
 use mathlib.Core.List.{List, [], ◌∷◌, ◌++◌}
 use native.Mathlib.Omega.{arith}
-use lib.ListN.{length, get_or, set, drop, length-set, length-drop}
+use lib.ListN.{length, get_or, drop, length-set, length-drop}
 use lib.Seq.{ext_get_or, get_or-drop}
-use lib.Dec.{leb}
 use borrow.Author.Tests.{le-leb, lt-leb}
+use Rattle.std.specs.Prelude.{Ok}
+use Rattle.kinds.specs.Answers.{refusing}
+use Rattle.kinds.specs.declared.refusal.Refusal.TheVariants as refusal
 use Rattle.meaning.specs.Refusals.{Refusal, Answer, done, refused}
 use Rattle.kinds.specs.Write.{write, write-length, write-after}
 use Rattle.kinds.specs.Steps.{step_size, step_at, step_bytes, step-sized}
@@ -31,9 +33,7 @@ use Rattle.codegen.specs.Loads as loads
 use Rattle.codegen.proofs.Ends.{fits_all_lem}
 use Rattle.constraint_pieces.specs.Closed.{closing_step, raw_close_last, closed_said, closed_list, grown, PutAsks, grown-start, closed-count, closed-put}
 use Rattle.constraint_pieces.specs.Marking.{OrRefused}
-use Rattle.constraint_pieces.specs.Closing.{some_block, closed_on, CloseAnswered, CloseGiven, TellsClosed, CloseAsks}
-use Rattle.constraint_pieces.specs.declared.close.Closing.{Closing}
-use Rattle.constraint_pieces.specs.declared.close.Closing.TheVariants as closing
+use Rattle.constraint_pieces.specs.Closing.{Closing, some_block, closed_on, CloseAnswered, CloseGiven, TellsClosed, CloseAsks}
 
 -- ── lists ────────────────────────────────────────────────────────────────────
 pub closed-by :
@@ -71,12 +71,12 @@ module _ {x l : List ℕ} {m : ℕ} (a : CloseAsks x l m) {bk ak tk : ℕ} (rb :
   abbrev answer : Answer Said
   answer = closed_on (length l) (said x l)
 
-  pub no-block : bk ≡ 0 → TellsClosed answer x l x l closing.NoBlock
+  pub no-block : bk ≡ 0 → TellsClosed answer x l x l (refusing refusal.NoBlock)
   no-block h =
       let e : blocks_in x ≡ 0 = sym rb.is ∙ h in
       let z : answer ≡ refused Refusal.no_block none
       = ap (λ n. some_block (raw_blocks (words_in x n) l n) (fitting (length l) (closed_said (said x l)))) e ∙ none_first (words_in x 0) l _ in
-      subst (λ (y : Answer Said). TellsClosed y x l x l closing.NoBlock) (sym z) (record { says = refl; stands = (refl, refl) })
+      subst (λ (y : Answer Said). TellsClosed y x l x l (refusing refusal.NoBlock)) (sym z) (record { says = refl; stands = (refl, refl) })
 
   module _ (some-blocks : bk ≡ 0 → ⊥) where
     abbrev k : ℕ
@@ -151,7 +151,7 @@ module _ {x l : List ℕ} {m : ℕ} (a : CloseAsks x l m) {bk ak tk : ℕ} (rb :
               }
 
           pub all_closed :
-              {x' l' : List ℕ} → l' ≡ closed_list l ak → x' ≡ stored_in x (mark_bytes (marks_of s)) t' 0 bk (ak + 1) tk → TellsClosed answer x l x' l' closing.Done
+              {x' l' : List ℕ} → l' ≡ closed_list l ak → x' ≡ stored_in x (mark_bytes (marks_of s)) t' 0 bk (ak + 1) tk → TellsClosed answer x l x' l' (Ok tt)
           all_closed {x'} {l'} p q =
               let f = fits_all_lem (length l) (ak + 1) tk h in
               let S : Said = record { marks = marks_of s; blocks = raw_blocks t' l' bk; counter = tk } in
@@ -168,21 +168,21 @@ module _ {x l : List ℕ} {m : ℕ} (a : CloseAsks x l m) {bk ak tk : ℕ} (rb :
               let c = q ∙ ap (λ n. stored_in x (mark_bytes (marks_of s)) t' 0 bk n tk) (sym after_is) ∙ stored-with x t' l' bk tk (marks_of s) few-blocks in
               let g : ListWith l S l'
               = steps-with x t' l' bk tk (marks_of s) few-blocks l (ap length p ∙ closed-size l ak) (rw (after_is, p) (closed-past l ak)) in
-              subst (λ (y : Answer Said). TellsClosed y x l x' l' closing.Done) (sym yes) (record { says = refl; stands = (c, g) })
+              subst (λ (y : Answer Said). TellsClosed y x l x' l' (Ok tt)) (sym yes) (record { says = refl; stands = (c, g) })
 
-    pub no_room : fits (length l) (ak + 1) tk ≡ false → TellsClosed answer x l x l closing.Full
+    pub no_room : fits (length l) (ak + 1) tk ≡ false → TellsClosed answer x l x l (refusing refusal.Full)
     no_room h =
         let t : List ℕ = write no_words 0 (words_in x (blocks_in x)) in
         let z : answer ≡ refused Refusal.full none
         = answer-is {t = t} refl ∙ ap (λ v. cond v (done (closed_said (said x l))) (refused Refusal.full none)) (fits-is {t = t} refl ∙ h) in
-        subst (λ (y : Answer Said). TellsClosed y x l x l closing.Full) (sym z) (record { says = refl; stands = (refl, refl) })
+        subst (λ (y : Answer Said). TellsClosed y x l x l (refusing refusal.Full)) (sym z) (record { says = refl; stands = (refl, refl) })
 
 -- ── the answers ──────────────────────────────────────────────────────────────
 module _ (m : ℕ) (x l : List ℕ) where
   abbrev Rest : Answer Said → Type 0
   Rest a = (g : Bool) × Exactly g (Good x m (length l)) × OrRefused g Refusal.malformed a (a ≡ closed_on (length l) (said x l))
 
-  pub past-limit : expression_limit < m → CloseGiven m x x l l closing.Limit
+  pub past-limit : expression_limit < m → CloseGiven m x x l l (refusing refusal.Full)
   past-limit h =
       let a : Answer Said = refused Refusal.full none in
       (a, subst (λ b. OrRefused b Refusal.full a (Rest a)) (sym (lt-leb m expression_limit h)) refl, record { says = refl; stands = (refl, refl) })
@@ -191,7 +191,7 @@ module _ (m : ℕ) (x l : List ℕ) where
     within : (a : Answer Said) → OrRefused g Refusal.malformed a (a ≡ closed_on (length l) (said x l)) → CloseAnswered m x l a
     within a t = subst (λ b. OrRefused b Refusal.full a (Rest a)) (sym (le-leb m expression_limit few)) (g, ex, t)
 
-    pub bad-context : g ≡ false → CloseGiven m x x l l closing.BadContext
+    pub bad-context : g ≡ false → CloseGiven m x x l l (refusing refusal.Malformed)
     bad-context z =
         let a : Answer Said = refused Refusal.malformed none in
         (a, within a (subst (λ b. OrRefused b Refusal.malformed a (a ≡ closed_on (length l) (said x l))) (sym z) refl), record { says = refl; stands = (refl, refl) })

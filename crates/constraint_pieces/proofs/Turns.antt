@@ -2,23 +2,24 @@
 -- Assumes nothing.
 use Prim.Native.Nat.{ℕ, suc, ◌+◌, ◌*◌, ◌<◌, ◌≤◌}
 use mathlib.Core.Path.{◌≡◌, refl, sym, ◌∙◌, ap, subst}
-use mathlib.Core.Bool.{Bool, true, false, ◌&&◌, cond}
+use mathlib.Core.Bool.{Bool, true, false, cond}
 use mathlib.Core.Option.{none}
-use mathlib.Core.List.{List, []}
+use mathlib.Core.List.{List}
 use native.Mathlib.Omega.{arith}
 use lib.ListN.{length, get_or, set, drop}
 use lib.Seq.{drop-cons, drop-length}
-use lib.Dec.{leb, ltb}
 use borrow.Author.Tests.{le-ltb, lt-ltb, le-leb, lt-leb}
+use Rattle.std.specs.Prelude.{Ok}
+use Rattle.kinds.specs.Answers.{refusing}
+use Rattle.kinds.specs.declared.refusal.Refusal.TheVariants as refusal
 use Rattle.meaning.specs.Refusals.{Refusal, Answer, done, refused}
 use Rattle.frames.specs.Order.{expression_limit}
-use Rattle.context.specs.Context.{cells, context_size, Good, Exactly}
+use Rattle.context.specs.Context.{Good, Exactly}
 use Rattle.context.specs.Tables.{marks_in, with_marks, MarksAsk}
 use Rattle.context.specs.Stored as stored
 use Rattle.codegen.specs.Said.{Said, said}
 use Rattle.constraint_pieces.specs.Marks.{AllBelow, all_below, mark_one, mark_all, all-size, below_true}
 use Rattle.constraint_pieces.specs.Marking.{marked_said, OrRefused, MarkAnswered, MarkGiven, MarkGoodAsks, marked_context}
-use Rattle.constraint_pieces.specs.declared.mark.Marking.TheVariants as marking
 
 -- ── marked one by one ────────────────────────────────────────────────────────
 pub one-is : (e : ℕ) (s : List ℕ) → set (set s (2 * e) 1) (2 * e + 1) 1 ≡ mark_one e s
@@ -68,7 +69,7 @@ module _ (es : List ℕ) (m : ℕ) (x l : List ℕ) where
   abbrev Rest : Answer Said → Type 0
   Rest a = (g : Bool) × Exactly g (Good x m (length l)) × OrRefused g Refusal.malformed a (a ≡ cond (all_below m es) (done (marked_said es (said x l))) (refused Refusal.not_there none))
 
-  pub past-limit : expression_limit < m → MarkGiven es m x x l marking.Limit
+  pub past-limit : expression_limit < m → MarkGiven es m x x l (refusing refusal.Full)
   past-limit h =
       let a : Answer Said = refused Refusal.full none in
       (a, subst (λ b. OrRefused b Refusal.full a (Rest a)) (sym (lt-leb m expression_limit h)) refl, record { says = refl; stands = refl })
@@ -81,7 +82,7 @@ module _ (es : List ℕ) (m : ℕ) (x l : List ℕ) where
       abbrev Last : Answer Said → Type 0
       Last a = a ≡ cond (all_below m es) (done (marked_said es (said x l))) (refused Refusal.not_there none)
 
-      pub bad-context : g ≡ false → MarkGiven es m x x l marking.BadContext
+      pub bad-context : g ≡ false → MarkGiven es m x x l (refusing refusal.Malformed)
       bad-context z =
           let a : Answer Said = refused Refusal.malformed none in
           (a, within a (g, ex, subst (λ b. OrRefused b Refusal.malformed a (Last a)) (sym z) refl), record { says = refl; stands = refl })
@@ -90,7 +91,7 @@ module _ (es : List ℕ) (m : ℕ) (x l : List ℕ) where
         checked : (a : Answer Said) → Last a → MarkAnswered es m x l a
         checked a t = within a (g, ex, subst (λ b. OrRefused b Refusal.malformed a (Last a)) (sym z) t)
 
-        pub not_there : {r : Bool} → r ≡ all_below m es → r ≡ false → MarkGiven es m x x l marking.NotThere
+        pub not_there : {r : Bool} → r ≡ all_below m es → r ≡ false → MarkGiven es m x x l (refusing refusal.NotThere)
         not_there h q =
             let a : Answer Said = refused Refusal.not_there none in
             (a, checked a (rw (sym h ∙ q)), record { says = refl; stands = refl })
@@ -102,7 +103,7 @@ module _ (es : List ℕ) (m : ℕ) (x l : List ℕ) where
           pub good-asks : MarkGoodAsks es x
           good-asks = record { size = (ex.0 z).head.size; there = λ k u. omega (arith, below k u, few) }
 
-          pub all_done : {x' : List ℕ} → x' ≡ marked_context es x → MarkGiven es m x x' l marking.Done
+          pub all_done : {x' : List ℕ} → x' ≡ marked_context es x → MarkGiven es m x x' l (Ok tt)
           all_done e =
               let a : Answer Said = done (marked_said es (said x l)) in
               (a, checked a (rw (sym h ∙ q)), record { says = refl; stands = e })

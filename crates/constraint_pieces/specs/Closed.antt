@@ -2,7 +2,7 @@
 -- others and the last block's word grown.
 -- Assumes nothing.
 use Prim.Native.Nat.{ℕ, zero, suc, ◌+◌, ◌*◌, ◌-◌, ◌/◌, ◌%◌, ◌<◌, ◌≤◌}
-use Rattle.std.specs.Prelude.{◌≡◌, get_or, set, drop}
+use Rattle.std.specs.Prelude.{◌≡◌, get_or, set}
 use Rattle.std.proofs.Math.Path.{refl, ap}
 use Rattle.std.proofs.Common.{sym, ◌∙◌, inl, arith, length-append, get_or-set_other}
 use Rattle.std.proofs.Math.Option.{Option, none, some}
@@ -15,12 +15,11 @@ use Rattle.meaning.specs.Generation as meaning
 use Rattle.kinds.specs.KindBytes as kind
 use Rattle.kinds.specs.OpBytes as op
 use Rattle.kinds.specs.References.{plain_ref, blank_ref}
-use Rattle.kinds.specs.Write.{write, write-length}
-use Rattle.kinds.specs.Steps.{step_size, step_at, step_bytes, step-sized, step-read, step_kept, steps-length}
+use Rattle.kinds.specs.Write.{write}
+use Rattle.kinds.specs.Steps.{step_size, step_at, step_bytes, step-read, step_kept}
 use Rattle.kinds.specs.declared.reference.Reference.{Reference}
 use Rattle.kinds.specs.declared.step.Step.{Step}
 use Rattle.frames.specs.Tables.{first}
-use Rattle.frames.specs.Packing.{first-same}
 use Rattle.starkinfo_codegen.specs.Encoding.{ref_of, records, records-append}
 use Rattle.starkinfo_codegen.specs.Sources.{step_with}
 use Rattle.builds.specs.Raw.{RawBlock, steps_in, start_of, records_from, raw_block_at, raw_blocks, last_destination, every}

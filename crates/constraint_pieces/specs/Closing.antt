@@ -1,13 +1,15 @@
 -- THE CLOSING PRODUCT IN A LENT CONTEXT: the answer, and what stands in the context and its list after it; that it is the definition's `closing`.
 -- The order of refusals: 9 of the pool's limit, 1 of the context, 8 where there is no block, 9 where there is no room.
 -- Assumes nothing.
-use Rattle.std.specs.Prelude.{ℕ, suc, ◌≤◌, ◌≡◌, refl, Bool, true, false, cond, List, [], ◌∷◌, length, leb}
+use Rattle.std.specs.Prelude.{ℕ, suc, ◌≤◌, ◌≡◌, refl, Bool, true, false, cond, List, [], ◌∷◌, length, leb, Result}
 use Rattle.std.proofs.Common.{sym, ◌∙◌, ap, subst, arith}
-use Rattle.std.proofs.Math.Option.{Option, none}
-use Rattle.meaning.specs.Refusals.{Refusal, Answer, done, refused, ◌then◌}
+use Rattle.std.proofs.Math.Option.{none}
+use Rattle.meaning.specs.Refusals.{Refusal, Answer, done, refused}
 use Rattle.meaning.specs.Trees.{Each}
 use Rattle.meaning.specs.Generation.{Block, State}
-use Rattle.meaning.proofs.Laws.Tests.{then-done, done-same, done-not-refused}
+use Rattle.meaning.proofs.Laws.Tests.{done-same, done-not-refused}
+use Rattle.kinds.specs.Answers.{answer_of}
+use Rattle.kinds.specs.declared.refusal.Refused.{Refused}
 use Rattle.frames.specs.Order.{expression_limit}
 use Rattle.builds.specs.Raw.{RawBlock}
 use Rattle.builds.specs.Held.{Celled}
@@ -19,8 +21,6 @@ use Rattle.codegen.specs.Sessions.{Holds, said-again}
 use Rattle.constraint_meaning.specs.Constraint as definition
 use Rattle.constraint_pieces.specs.Closed.{closed_said, closed_said_lem}
 use Rattle.constraint_pieces.specs.Marking.{OrRefused}
-use Rattle.constraint_pieces.specs.declared.close.Closing.{Closing}
-use Rattle.constraint_pieces.specs.declared.close.Closing.TheVariants as closing
 
 -- ── the answer ───────────────────────────────────────────────────────────────
 -- 8 where there is no block
@@ -38,13 +38,13 @@ CloseAnswered m x l a =
     OrRefused (leb m expression_limit) Refusal.full a
     ((g : Bool) × Exactly g (Good x m (length l)) × OrRefused g Refusal.malformed a (a ≡ closed_on (length l) (said x l)))
 
--- WHAT Closing SAYS
+-- that the product stands, or the refusal
+abbrev pub Closing : Type 0
+Closing = Result (Unit {0}) Refused
+
+-- WHAT IT SAYS
 abbrev pub closing_says : Closing → Answer (Unit {0})
-closing_says closing.Limit = refused Refusal.full none
-closing_says closing.BadContext = refused Refusal.malformed none
-closing_says closing.NoBlock = refused Refusal.no_block none
-closing_says closing.Full = refused Refusal.full none
-closing_says closing.Done = done tt
+closing_says r = answer_of r
 
 -- an answer told, and the bytes after it: on a refusal every byte is what it was
 pub record TellsClosed (a : Answer Said) (x l x' l' : List ℕ) (r : Closing) : Type 0 where

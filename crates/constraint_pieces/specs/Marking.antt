@@ -1,26 +1,26 @@
 -- MEMBERS MARKED IN A LENT CONTEXT: the answer, and the context's bytes after it; that they say what the definition's `marked` says.
 -- The order of refusals: 9 of the pool's limit, 1 of the context, 3 of a member.
 -- Assumes nothing.
-use Rattle.std.specs.Prelude.{ℕ, zero, suc, ◌+◌, ◌<◌, ◌≤◌, ◌≡◌, refl, Bool, true, false, ◌&&◌, ◌||◌, cond, List, [], ◌∷◌, ◌++◌, length, get_or, leb, ltb, eqb}
-use Rattle.std.proofs.Common.{sym, ◌∙◌, ap, arith, ltb-true, eqb-true}
-use Rattle.std.proofs.Math.Option.{Option, none}
+use Rattle.std.specs.Prelude.{ℕ, zero, suc, ◌<◌, ◌≡◌, refl, Bool, true, false, ◌&&◌, cond, List, [], ◌∷◌, length, leb, ltb, eqb, Result}
+use Rattle.std.proofs.Common.{◌∙◌, ap, arith, ltb-true, eqb-true}
+use Rattle.std.proofs.Math.Option.{none}
 use Rattle.meaning.specs.Refusals.{Refusal, Answer, done, refused}
 use Rattle.meaning.specs.Order.{Marks}
 use Rattle.meaning.specs.Generation.{State}
 use Rattle.search_meaning.specs.Search.{member}
+use Rattle.kinds.specs.Answers.{answer_of}
+use Rattle.kinds.specs.declared.refusal.Refused.{Refused}
 use Rattle.frames.specs.Order.{expression_limit}
 use Rattle.starkinfo_codegen.specs.Ordering.{marks_of}
 use Rattle.builds.specs.Raw.{raw_blocks}
 use Rattle.context.specs.Context.{cells, context_size, blocks_at, temporaries_at, blocks_in, temporaries_in, entry_in, Good, Exactly}
-use Rattle.context.specs.Tables.{marks_in, word_of, words_in, with_marks}
+use Rattle.context.specs.Tables.{marks_in, words_in, with_marks}
 use Rattle.context.specs.Stored as stored
 use Rattle.codegen.specs.Said.{Said, said, said_of}
 use Rattle.codegen.specs.Committing.{outcome}
 use Rattle.codegen.specs.Sessions.{Bounded, Holds}
 use Rattle.constraint_meaning.specs.Constraint as definition
 use Rattle.constraint_pieces.specs.Marks.{AllBelow, all_below, mark_all, with_members, all-size, all-marks, below-tail}
-use Rattle.constraint_pieces.specs.declared.mark.Marking.{Marking}
-use Rattle.constraint_pieces.specs.declared.mark.Marking.TheVariants as marking
 
 -- ── the answer ───────────────────────────────────────────────────────────────
 -- what is said, with the members marked
@@ -48,12 +48,13 @@ abbrev pub StandsMarked : List ℕ → Answer Said → List ℕ → List ℕ →
 StandsMarked es (done st) x x' = x' ≡ marked_context es x
 StandsMarked es (refused k o) x x' = x' ≡ x
 
--- WHAT Marking SAYS
+-- that they are marked, or the refusal
+abbrev pub Marking : Type 0
+Marking = Result (Unit {0}) Refused
+
+-- WHAT IT SAYS
 abbrev pub marking_says : Marking → Answer (Unit {0})
-marking_says marking.Limit = refused Refusal.full none
-marking_says marking.BadContext = refused Refusal.malformed none
-marking_says marking.NotThere = refused Refusal.not_there none
-marking_says marking.Done = done tt
+marking_says r = answer_of r
 
 pub record TellsMarked (es : List ℕ) (a : Answer Said) (x x' : List ℕ) (r : Marking) : Type 0 where
   pub says : marking_says r ≡ outcome a

@@ -6,6 +6,7 @@ ghost use Rattle.constraint_pieces.specs.Closed.{closing_step, closed_list, PutA
 ghost use Rattle.constraint_pieces.specs.Closing.{CloseAsked, GoodClosed, CloseGiven};
 
 use builds::result::grow;
+use codegen::commit::has_room;
 use codegen::store::store;
 use context::check::is_good;
 use context::layout::{blocks_of, steps_of, temporaries_of};
@@ -13,38 +14,12 @@ use context::load::{load_blocks, load_marks};
 use frames::count::EXPRESSION_LIMIT;
 use kinds::kind::Kind;
 use kinds::reference::Reference;
+use kinds::refusal::{Refusal, Refused};
 use kinds::step::{STEP_SIZE, Step, nth_step, put_nth_step};
 use kinds::step_op::StepOp;
-use requests::generate::TEMPORARY_LIMIT;
 use starkinfo_codegen::order::JOB_LIMIT;
 
-// The refusal, or that the product stands.
-#[derive(Drop)]
-pub enum Closing {
-    Limit,
-    BadContext,
-    NoBlock,
-    Full,
-    Done,
-}
-
-// A number of a step, too, is below the limit of a temporary's.
-const STEP_LIMIT: usize = TEMPORARY_LIMIT;
-
 const SOURCES: u8 = 2;
-
-pub fn has_room(list: &[u8], steps: usize, temporaries: usize) -> bool
-    requires { steps ≤ step_bound }
-    ensures { result ≡ fits (length list.now) steps temporaries }
-{
-    if list.len() < STEP_SIZE * steps {
-        return false;
-    }
-    if STEP_LIMIT <= steps {
-        return false;
-    }
-    temporaries < TEMPORARY_LIMIT
-}
 
 fn closing_step(last: Reference) -> Step
     ensures { result ≡ closing_step last }
@@ -70,7 +45,7 @@ pub fn put_closing(list: &mut [u8], n: usize)
 }
 
 // A good context of some pool.
-fn close_good(context: &mut [u8], list: &mut [u8]) -> Closing
+fn close_good(context: &mut [u8], list: &mut [u8]) -> Result<(), Refused>
     requires { CloseAsked context.old list.old }
     ensures { GoodClosed context.old context.new list.old list.new result }
 {
@@ -78,10 +53,10 @@ fn close_good(context: &mut [u8], list: &mut [u8]) -> Closing
     let at = steps_of(context);
     let t = temporaries_of(context);
     if blocks == 0 {
-        return Closing::NoBlock;
+        return Err(Refusal::NoBlock.into());
     }
     if !has_room(list, at + 1, t) {
-        return Closing::Full;
+        return Err(Refusal::Full.into());
     }
     let mut marks = [0u8; JOB_LIMIT];
     let mut words = [0u64; JOB_LIMIT];
@@ -90,18 +65,18 @@ fn close_good(context: &mut [u8], list: &mut [u8]) -> Closing
     put_closing(list, at);
     grow(&mut words, blocks - 1);
     store(context, &mut marks, &words, blocks, at + 1, t);
-    Closing::Done
+    Ok(())
 }
 
 // Of a pool of m expressions: past the pool's limit 9, a context that is not good 1, no block 8, no room 9.
-pub fn close(m: usize, context: &mut [u8], list: &mut [u8]) -> Closing
+pub fn close(m: usize, context: &mut [u8], list: &mut [u8]) -> Result<(), Refused>
     ensures { CloseGiven m context.old context.new list.old list.new result }
 {
     if EXPRESSION_LIMIT < m {
-        return Closing::Limit;
+        return Err(Refusal::Full.into());
     }
     if !is_good(context, list.len(), m) {
-        return Closing::BadContext;
+        return Err(Refusal::Malformed.into());
     }
     close_good(context, list)
 }

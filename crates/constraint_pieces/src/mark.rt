@@ -8,19 +8,11 @@ use context::check::is_good;
 use context::load::load_marks;
 use context::store::store_marks;
 use frames::count::EXPRESSION_LIMIT;
+use kinds::refusal::{Refusal, Refused};
 use starkinfo_codegen::order::JOB_LIMIT;
 use starkinfo_codegen::out::ROWS;
 
 const MARKED: u8 = 1;
-
-// The refusal, or that they are marked.
-#[derive(Drop)]
-pub enum Marking {
-    Limit,
-    BadContext,
-    NotThere,
-    Done,
-}
 
 fn mark_one(marks: &mut [u8; JOB_LIMIT], e: usize)
     requires { e < expression_limit }
@@ -63,18 +55,18 @@ fn mark_good(members: &[u64], context: &mut [u8])
 }
 
 // Of a pool of m expressions, in a context and its list: past the pool's limit 9, a context that is not good 1, a member that is not there 3.
-pub fn mark(members: &[u64], m: usize, context: &mut [u8], list: &[u8]) -> Marking
+pub fn mark(members: &[u64], m: usize, context: &mut [u8], list: &[u8]) -> Result<(), Refused>
     ensures { MarkGiven members.now m context.old context.new list.now result }
 {
     if EXPRESSION_LIMIT < m {
-        return Marking::Limit;
+        return Err(Refusal::Full.into());
     }
     if !is_good(context, list.len(), m) {
-        return Marking::BadContext;
+        return Err(Refusal::Malformed.into());
     }
     if !all_there(members, m) {
-        return Marking::NotThere;
+        return Err(Refusal::NotThere.into());
     }
     mark_good(members, context);
-    Marking::Done
+    Ok(())
 }

@@ -79,9 +79,6 @@ module _ {w₀ l₀ x : List ℕ} {n m : ℕ} {es : List ℕ} {at vc cm : ℕ} (
     pub member-root : get_or es k 0 < expression_limit
     member-root = omega (arith, a.few, a.there k h)
 
-    pub member-column : cm + k < 65536
-    member-column = omega (arith, a.columns)
-
   module _ {w l : List ℕ} {next k : ℕ} (p : Appends w₀ l₀ at (members_nodes P vc at cm (take k es)) w l next) (h : k < length es) where
     kept : tabled (Tabling w l x n m) ≡ P
     kept = pool-kept x n m p a.after

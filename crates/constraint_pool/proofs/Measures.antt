@@ -2,14 +2,11 @@
 -- Assumes nothing.
 use Prim.Native.Nat.{ℕ, zero, suc, ◌+◌, ◌-◌, ◌*◌, ◌≤◌, ◌<◌, min}
 use mathlib.Core.Path.{◌≡◌, refl, sym, ◌∙◌, ap, subst}
-use mathlib.Core.Bool.{Bool, true, false}
 use mathlib.Core.List.{List, [], ◌∷◌, ◌++◌}
 use native.Mathlib.Omega.{arith}
 use native.Mathlib.Numerals.{add-one}
 use lib.ListN.{length, get_or, take}
-use lib.Dec.{leb}
 use lib.Seq.{take-suc, take_all}
-use borrow.Author.Tests.{le-leb, lt-leb, leb-true, leb-false}
 use Rattle.meaning.specs.Trees.{Each}
 use Rattle.frames.specs.Order.{node_limit, expression_limit}
 use Rattle.frames.specs.Tables.{node_in, count_in, child_in}
@@ -23,8 +20,7 @@ use Rattle.pool.specs.Laws.Nodes.{root-there}
 use Rattle.constraint_meaning.specs.Numbers.{size}
 use Rattle.constraint_pool.specs.Nodes.{body_of}
 use Rattle.constraint_pool.specs.Copies.{Law, count_law}
-use Rattle.constraint_pool.specs.Sizes.{over, SizeAsks, members_size, MembersSizeAsks, WholeSizeAsks, columns_fit, counts_fit}
-use Rattle.constraint_pool.specs.declared.judge.Columns.{Columns}
+use Rattle.constraint_pool.specs.Sizes.{over, SizeAsks, members_size, MembersSizeAsks, WholeSizeAsks}
 
 cap_three :
     (a b c s t u r : ℕ) → s ≡ min over a → t ≡ min over b → u ≡ min over c → r ≡ min over (s + t + u + 1) → r ≡ min over (suc (a + (b + c)))
@@ -181,25 +177,3 @@ module _ {w l x ids es : List ℕ} {n m : ℕ} (a : WholeSizeAsks w l x ids es n
 
   pub whole : {s r : ℕ} → s ≡ min over (members_size S es) → r ≡ min over (n + 1 + 4 * (length ids - 1) + s) → r ≡ min over (n + 1 + 4 * (length ids - 1) + members_size S es)
   whole e f = omega arith
-
--- ---- columns and counts
-
-same-leb : (a b c d : ℕ) → (a ≤ b → c ≤ d) → (b < a → d < c) → leb a b ≡ leb c d
-same-leb a b c d f g = by (leb a b) refl
-  where
-    by : (z : Bool) → leb a b ≡ z → leb a b ≡ leb c d
-    by true e = e ∙ sym (le-leb c d (f (leb-true a b e)))
-    by false e = e ∙ sym (lt-leb c d (g (leb-false a b e)))
-
-module _ (c : Columns) (members : ℕ) where
-  pub columns-over : 65536 < c.commitments + members + c.quotients → false ≡ columns_fit c members
-  columns-over h = sym (lt-leb _ _ h)
-
-  pub columns-within : c.commitments + members ≤ 65536 → leb c.quotients (65536 - c.commitments - members) ≡ columns_fit c members
-  columns-within h = same-leb c.quotients (65536 - c.commitments - members) (c.commitments + members + c.quotients) 65536 (λ g. omega arith) (λ g. omega arith)
-
-pub counts-over : (c : Columns) → c.commitments < c.n_cm1 → false ≡ counts_fit c
-counts-over c h = sym (lt-leb _ _ (let z : c.commitments < c.n_cm1 + c.n_cm2 = omega arith in z))
-
-pub counts-within : (c : Columns) → c.n_cm1 ≤ c.commitments → leb c.n_cm2 (c.commitments - c.n_cm1) ≡ counts_fit c
-counts-within c h = same-leb c.n_cm2 (c.commitments - c.n_cm1) (c.n_cm1 + c.n_cm2) c.commitments (λ g. omega arith) (λ g. omega arith)

@@ -25,9 +25,10 @@ use Rattle.constraint_pool.specs.Whole.{AllBelow, ConstraintAsks, Adds}
 use Rattle.constraint_pool.specs.Sizes.{over, members_size, WholeSizeAsks, columns_fit, counts_fit}
 use Rattle.constraint_pool.specs.Judging.{fit_says, judged}
 use Rattle.constraint_pool.specs.Extending.{Gives}
-use Rattle.constraint_pool.specs.declared.entry.Extended.TheVariants as answer
+use Rattle.std.specs.Prelude.{Ok, Err}
+use Rattle.kinds.specs.declared.refusal.Refusal.{Refusal}
+use Rattle.kinds.specs.declared.refusal.Refusal.TheVariants.{Full, Counts}
 use Rattle.constraint_pool.specs.declared.judge.Columns.{Columns}
-use Rattle.constraint_pool.specs.declared.judge.Fit.TheVariants.{Full, Counts, Fits}
 
 -- ---- as many as the definition says
 
@@ -68,28 +69,28 @@ module _ {w l x ids es : List ℕ} {n m : ℕ} (a : WholeSizeAsks w l x ids es n
   count = forest-size P ∙ expression-count (Tabling w l x n m)
 
   module _ {r : ℕ} (e : r ≡ min over (n + 1 + 4 * (length ids - 1) + members_size P es)) where
-    pub nodes-full : node_limit < r → fit_says Full ≡ judged (forest P) n vc c ids es
+    pub nodes-full : node_limit < r → fit_says (Err Full) ≡ judged (forest P) n vc c ids es
     nodes-full h = rw (lt-leb free 4096 (omega (arith, free-is)))
 
     module _ (h : r ≤ node_limit) where
       within : leb free 4096 ≡ true
       within = le-leb free 4096 (omega (arith, free-is))
 
-      pub expressions-full : expression_limit ≤ m → fit_says Full ≡ judged (forest P) n vc c ids es
+      pub expressions-full : expression_limit ≤ m → fit_says (Err Full) ≡ judged (forest P) n vc c ids es
       expressions-full g = rw (within, lt-leb (length (forest P) + 1) 512 (omega (arith, count)))
 
       module _ (g : m < expression_limit) where
         below : leb (length (forest P) + 1) 512 ≡ true
         below = le-leb (length (forest P) + 1) 512 (omega (arith, count))
 
-        pub columns-full : {b : Bool} → b ≡ columns_fit c (length es) → b ≡ false → fit_says Full ≡ judged (forest P) n vc c ids es
+        pub columns-full : {b : Bool} → b ≡ columns_fit c (length es) → b ≡ false → fit_says (Err Full) ≡ judged (forest P) n vc c ids es
         columns-full f z = rw (within, below, sym f ∙ z)
 
         module _ {b : Bool} (f : b ≡ columns_fit c (length es)) (z : b ≡ true) where
-          pub all_fit : {d : Bool} → d ≡ counts_fit c → d ≡ true → fit_says Fits ≡ judged (forest P) n vc c ids es
+          pub all_fit : {d : Bool} → d ≡ counts_fit c → d ≡ true → fit_says (Ok tt) ≡ judged (forest P) n vc c ids es
           all_fit o q = rw (within, below, sym f ∙ z, sym o ∙ q)
 
-          pub counts_differ : {d : Bool} → d ≡ counts_fit c → d ≡ false → fit_says Counts ≡ judged (forest P) n vc c ids es
+          pub counts_differ : {d : Bool} → d ≡ counts_fit c → d ≡ false → fit_says (Err Counts) ≡ judged (forest P) n vc c ids es
           counts_differ o q = rw (within, below, sym f ∙ z, sym o ∙ q)
 
   -- ---- room for the constraint
@@ -100,7 +101,7 @@ module _ {w l x ids es : List ℕ} {n m : ℕ} (a : WholeSizeAsks w l x ids es n
     pub expressions : m < expression_limit
     pub columns : c.commitments + length es + c.quotients ≤ 65536
 
-  through : fit_says Fits ≡ judged (forest P) n vc c ids es → Through
+  through : fit_says (Ok tt) ≡ judged (forest P) n vc c ids es → Through
   through e = one (leb free 4096) refl (leb (length (forest P) + 1) 512) refl (leb (c.commitments + length es + c.quotients) 65536) refl
     where
       one :
@@ -117,7 +118,7 @@ module _ {w l x ids es : List ℕ} {n m : ℕ} (a : WholeSizeAsks w l x ids es n
       let g = constraint-length P vc c.commitments (get_or ids 0 0) (drop 1 ids) es in
       omega (arith, free-is, nodes_count P vc (length P.nodes + 1 + 4 * length (drop 1 ids)) c.commitments es, a.some)
 
-  pub constraint-asks : AllBelow m ids → fit_says Fits ≡ judged (forest P) n vc c ids es → ConstraintAsks w l x ids es vc c.commitments n m
+  pub constraint-asks : AllBelow m ids → fit_says (Ok tt) ≡ judged (forest P) n vc c ids es → ConstraintAsks w l x ids es vc c.commitments n m
   constraint-asks ids_there e =
       let t = through e in
       record {
@@ -133,13 +134,10 @@ module _ {w l x ids es : List ℕ} {n m : ℕ} (a : WholeSizeAsks w l x ids es n
   -- ---- the answers
 
   module _ (there : AllBelow m ids) where
-    pub full-given : fit_says Full ≡ judged (forest P) n vc c ids es → Gives w l x ids es vc c n m w l x answer.Full
-    full-given e = record { answer = rw (← e); tables = (refl, refl, refl) }
-
-    pub counts-given : fit_says Counts ≡ judged (forest P) n vc c ids es → Gives w l x ids es vc c n m w l x answer.Counts
-    counts-given e = record { answer = rw (← e); tables = (refl, refl, refl) }
+    pub refused-given : {f : Refusal} → fit_says (Err f) ≡ judged (forest P) n vc c ids es → Gives w l x ids es vc c n m w l x (Err f)
+    refused-given e = record { answer = rw (← e); tables = (refl, refl, refl) }
 
     pub added-given :
-        {w' l' x' : List ℕ} {r : ℕ} → fit_says Fits ≡ judged (forest P) n vc c ids es → Adds w l x ids es vc c.commitments n m w' l' x' r
-        → Gives w l x ids es vc c n m w' l' x' (answer.Added r)
+        {w' l' x' : List ℕ} {r : ℕ} → fit_says (Ok tt) ≡ judged (forest P) n vc c ids es → Adds w l x ids es vc c.commitments n m w' l' x' r
+        → Gives w l x ids es vc c n m w' l' x' (Ok r)
     added-given e d = record { answer = rw (← e) (ap done (d.nodes.next ∙ whole-count)); tables = d }

@@ -1,9 +1,10 @@
 -- WHETHER THE CONSTRAINT MAY BE ADDED: document 01's refusals 9 and 11, of the constraint's tree as it is defined.
 -- Assumes nothing: these are definitions.
-use Rattle.std.specs.Prelude.{ℕ, ◌+◌, ◌≡◌, List, length, get_or, drop, leb}
-use Rattle.std.proofs.Math.Option.{none}
+use Rattle.std.specs.Prelude.{Result, ℕ, ◌+◌, ◌≡◌, List, length, get_or, drop, leb}
+use Rattle.kinds.specs.Answers.{plain_answer_of}
+use Rattle.kinds.specs.declared.refusal.Refusal as code
 use Rattle.meaning.specs.Trees.{Forest}
-use Rattle.meaning.specs.Refusals.{Refusal, Answer, done, refused, ◌then◌}
+use Rattle.meaning.specs.Refusals.{Refusal, Answer, ◌then◌}
 use Rattle.pool.specs.Trees.{forest}
 use Rattle.pool.specs.Tabled.{tabled}
 use Rattle.pool.specs.Ranking.{Tabling}
@@ -11,14 +12,10 @@ use Rattle.constraint_meaning.specs.Tree.{columns_from, constraint_tree}
 use Rattle.constraint_meaning.specs.Constraint.{fits, unless}
 use Rattle.constraint_pool.specs.Sizes.{WholeSizeAsks}
 use Rattle.constraint_pool.specs.declared.judge.Columns.{Columns}
-use Rattle.constraint_pool.specs.declared.judge.Fit.{Fit}
-use Rattle.constraint_pool.specs.declared.judge.Fit.TheVariants.{Full, Counts, Fits}
 
--- WHAT Fit SAYS
-abbrev pub fit_says : Fit → Answer (Unit {0})
-fit_says Full = refused Refusal.full none
-fit_says Counts = refused Refusal.counts none
-fit_says Fits = done tt
+-- WHAT IS SAID, and never a node to blame
+abbrev pub fit_says : Result (Unit {0}) code.Refusal → Answer (Unit {0})
+fit_says = plain_answer_of
 
 -- of expressions E in a pool of n nodes, whichever the challenge
 abbrev pub judged : Forest → ℕ → ℕ → Columns → List ℕ → List ℕ → Answer (Unit {0})
@@ -30,6 +27,6 @@ judged E n vc c ids es =
 abbrev pub JudgeAsked : List ℕ → List ℕ → List ℕ → List ℕ → ℕ → ℕ → Type 0
 JudgeAsked w x ids es n m = (l : List ℕ) × WholeSizeAsks w l x ids es n m
 
-abbrev pub JudgeGiven : List ℕ → List ℕ → List ℕ → List ℕ → Columns → ℕ → ℕ → Fit → Type 0
+abbrev pub JudgeGiven : List ℕ → List ℕ → List ℕ → List ℕ → Columns → ℕ → ℕ → Result (Unit {0}) code.Refusal → Type 0
 JudgeGiven w x ids es c n m r =
     (l : List ℕ) (vc : ℕ) → WholeSizeAsks w l x ids es n m → fit_says r ≡ judged (forest (tabled (Tabling w l x n m))) n vc c ids es

@@ -12,13 +12,10 @@ use frames::tables::{NODE_WORDS, node_at, put_node};
 const NO_CHILD: u16 = 0;
 
 // The same node with other children.
-fn with_children(mut x: Node, c0: u16, c1: u16, c2: u16) -> Node
+fn with_children(x: Node, c0: u16, c1: u16, c2: u16) -> Node
     ensures { result ≡ moved x c0 c1 c2 }
 {
-    x.c0 = c0;
-    x.c1 = c1;
-    x.c2 = c2;
-    x
+    Node { c0, c1, c2, ..x }
 }
 
 // The last node before number `n`.

@@ -25,8 +25,8 @@ fn add_identities(
     ensures { Appends nodes.old literals.old at (identities_nodes vc at others.now) nodes.new literals.new result }
 {
     let mut next = at;
-    for k in 0..others.len() {
-        next = add_identity(nodes, literals, next, vc, others[k] as u16);
+    for e in others {
+        next = add_identity(nodes, literals, next, vc, *e as u16);
     }
     next
 }

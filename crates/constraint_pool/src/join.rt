@@ -17,9 +17,9 @@ fn leaf(kind: u8, id: u16) -> Node
     ensures { result ≡ leaf_node kind id }
 {
     Node {
-        kind: kind,
+        kind,
         next: 0,
-        id: id,
+        id,
         count: 0,
         c0: 0,
         c1: 0,
@@ -33,7 +33,7 @@ fn pair(kind: u8, a: u16, b: u16) -> Node
     ensures { result ≡ pair_node kind a b }
 {
     Node {
-        kind: kind,
+        kind,
         next: 0,
         id: 0,
         count: PAIR,

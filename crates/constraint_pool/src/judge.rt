@@ -6,6 +6,7 @@ ghost use Rattle.constraint_pool.specs.Judging.{JudgeAsked, JudgeGiven};
 use crate::measure::{capped, members_size};
 use frames::count::{EXPRESSION_LIMIT, NODE_LIMIT};
 use frames::tables::NODE_WORDS;
+use kinds::refusal::Refusal;
 
 // A column's number has 16 bits.
 const COLUMN_LIMIT: usize = 65536;
@@ -17,13 +18,6 @@ pub struct Columns {
     pub n_cm1: usize,
     pub n_cm2: usize,
     pub quotients: usize,
-}
-
-#[derive(Drop)]
-pub enum Fit {
-    Full,
-    Counts,
-    Fits,
 }
 
 // How many nodes there are with the constraint. The number of identities has no limit but a slice's.
@@ -47,23 +41,15 @@ fn whole_size(
 fn columns_fit(c: Columns, members: usize) -> bool
     ensures { result ≡ columns_fit c members }
 {
-    if COLUMN_LIMIT < c.commitments {
-        return false;
-    }
-    let free = COLUMN_LIMIT - c.commitments;
-    if free < members {
-        return false;
-    }
-    c.quotients <= free - members
+    c.commitments <= COLUMN_LIMIT
+        && members <= COLUMN_LIMIT - c.commitments
+        && c.quotients <= COLUMN_LIMIT - c.commitments - members
 }
 
 fn counts_fit(c: Columns) -> bool
     ensures { result ≡ counts_fit c }
 {
-    if c.commitments < c.n_cm1 {
-        return false;
-    }
-    c.n_cm2 <= c.commitments - c.n_cm1
+    c.n_cm1 <= c.commitments && c.n_cm2 <= c.commitments - c.n_cm1
 }
 
 pub fn judge(
@@ -74,22 +60,18 @@ pub fn judge(
     c: Columns,
     n: usize,
     m: usize,
-) -> Fit
+) -> Result<(), Refusal>
     requires { JudgeAsked nodes.now expressions.now identities.now members.now n m }
     ensures { JudgeGiven nodes.now expressions.now identities.now members.now c n m result }
 {
     if NODE_LIMIT < whole_size(nodes, expressions, identities, members, n) {
-        return Fit::Full;
+        return Err(Refusal::Full);
     }
-    if EXPRESSION_LIMIT <= m {
-        return Fit::Full;
+    if EXPRESSION_LIMIT <= m || !columns_fit(c, members.len()) {
+        return Err(Refusal::Full);
     }
-    if !columns_fit(c, members.len()) {
-        return Fit::Full;
+    if !counts_fit(c) {
+        return Err(Refusal::Counts);
     }
-    if counts_fit(c) {
-        Fit::Fits
-    } else {
-        Fit::Counts
-    }
+    Ok(())
 }

@@ -14,10 +14,7 @@ const MEMBER_NODES: usize = 5;
 pub fn capped(n: usize) -> usize
     ensures { result ≡ min over n }
 {
-    if OVER < n {
-        return OVER;
-    }
-    n
+    n.min(OVER)
 }
 
 // Of the tree at node `i`.
@@ -50,8 +47,8 @@ pub fn members_size(
     ensures { MembersSizeGiven nodes.now expressions.now members.now result }
 {
     let mut size: usize = 0;
-    for k in 0..members.len() {
-        let body = root(expressions, members[k] as usize);
+    for e in members {
+        let body = root(expressions, *e as usize);
         size = capped(size + tree_size(nodes, body) + MEMBER_NODES);
     }
     size

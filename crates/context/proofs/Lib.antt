@@ -1,6 +1,5 @@
 -- Lemmas over plain variables, which the functions' proofs cite.
 pub mod Tells
-pub mod Heads
 pub mod Cells
 pub mod Copies
 pub mod Stores

@@ -5,8 +5,7 @@ ghost use Rattle.context.specs.Context.{context_size, blocks_in, steps_before, F
 ghost use Rattle.context.specs.Tables.{Tabled, MarksChecked, BlockChecked, BlocksChecked, CellsChecked};
 
 use crate::layout::{
-    CONTEXT_SIZE, MARKS_AT, MODE_AT, ROWS_AT, SPARE_AT, VERSION_AT, blocks_of, cell_of, entry_at,
-    steps_of,
+    CONTEXT_SIZE, MARKS_AT, MODE_AT, ROWS_AT, SPARE_AT, VERSION_AT, blocks_of, entry_at, steps_of,
 };
 use kinds::step::STEP_SIZE;
 use starkinfo_codegen::order::JOB_LIMIT;
@@ -28,31 +27,19 @@ fn fixed_good(context: &[u8]) -> bool
     requires { length context.now ≡ context_size }
     ensures { Exactly result (Fixed context.now) }
 {
-    if context[VERSION_AT] != VERSION {
-        return false;
-    }
-    if context[MODE_AT] != MODE {
-        return false;
-    }
-    if context[ROWS_AT] != ROW_COUNT {
-        return false;
-    }
-    context[SPARE_AT] == SPARE
+    context[VERSION_AT] == VERSION
+        && context[MODE_AT] == MODE
+        && context[ROWS_AT] == ROW_COUNT
+        && context[SPARE_AT] == SPARE
 }
 
 fn head_good(context: &[u8], room: usize) -> bool
     ensures { Exactly result (Head context.now room) }
 {
-    if context.len() != CONTEXT_SIZE {
-        return false;
-    }
-    if !fixed_good(context) {
-        return false;
-    }
-    if JOB_LIMIT < blocks_of(context) {
-        return false;
-    }
-    STEP_SIZE * steps_of(context) <= room
+    context.len() == CONTEXT_SIZE
+        && fixed_good(context)
+        && blocks_of(context) <= JOB_LIMIT
+        && STEP_SIZE * steps_of(context) <= room
 }
 
 // The mark of a cell, in a pool of m expressions.
@@ -83,16 +70,10 @@ fn block_good(context: &[u8], k: usize, m: usize) -> bool
     ensures { Exactly result (Block context.now m k) }
 {
     let entry = entry_at(context, k);
-    if m <= entry.expression as usize {
+    if m <= entry.expression as usize || ROWS <= entry.prime as usize || entry.steps == 0 {
         return false;
     }
-    if ROWS <= entry.prime as usize {
-        return false;
-    }
-    if entry.steps == 0 {
-        return false;
-    }
-    let cell = cell_of(entry);
+    let cell = entry.cell();
     context[MARKS_AT + cell] == MARKED
 }
 
@@ -116,7 +97,7 @@ fn cells_apart(context: &[u8]) -> bool
     let n = blocks_of(context);
     let mut seen = [0u8; JOB_LIMIT];
     for k in 0..n {
-        let cell = cell_of(entry_at(context, k));
+        let cell = entry_at(context, k).cell();
         if seen[cell] == MARKED {
             return false;
         }
@@ -143,17 +124,9 @@ pub fn is_good(context: &[u8], room: usize, m: usize) -> bool
     requires { m ≤ expression_limit }
     ensures { Exactly result (Good context.now m room) }
 {
-    if !head_good(context, room) {
-        return false;
-    }
-    if !marks_good(context, m) {
-        return false;
-    }
-    if !blocks_good(context, m) {
-        return false;
-    }
-    if !cells_apart(context) {
-        return false;
-    }
-    total_steps(context) == steps_of(context)
+    head_good(context, room)
+        && marks_good(context, m)
+        && blocks_good(context, m)
+        && cells_apart(context)
+        && total_steps(context) == steps_of(context)
 }

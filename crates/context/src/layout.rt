@@ -35,7 +35,7 @@ pub const ENTRY_SIZE: usize = 6;
 pub const CONTEXT_SIZE: usize = TABLE_AT + ENTRY_SIZE * JOB_LIMIT;
 
 // A block: the cell that it writes, by its expression and row, and how many steps it has.
-#[derive(Drop)]
+#[derive(Clone, Copy, Debug, PartialEq, Eq)]
 pub struct Entry {
     pub expression: u16,
     pub prime: u16,
@@ -75,8 +75,10 @@ pub fn entry_at(context: &[u8], k: usize) -> Entry
     }
 }
 
-pub fn cell_of(e: Entry) -> usize
-    ensures { result ≡ entry_cell e }
-{
-    ROWS * (e.expression as usize) + (e.prime as usize)
+impl Entry {
+    pub fn cell(self) -> usize
+        ensures { result ≡ entry_cell self }
+    {
+        ROWS * (self.expression as usize) + (self.prime as usize)
+    }
 }

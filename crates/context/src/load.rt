@@ -4,23 +4,23 @@ ghost use Rattle.kinds.specs.Write.{write};
 ghost use Rattle.context.specs.Context.{blocks_in};
 ghost use Rattle.context.specs.Tables.{marks_in, word_of, words_in, LoadAsks, MarksAsk};
 
-use crate::layout::{Entry, MARKS_AT, blocks_of, cell_of, entry_at};
+use crate::layout::{Entry, MARKS_AT, TABLE_AT, blocks_of, entry_at};
 use starkinfo_codegen::order::JOB_LIMIT;
 
 pub fn load_marks(context: &[u8], marks: &mut [u8; JOB_LIMIT])
     requires { MarksAsk context.now marks.old }
     ensures { marks.new ≡ marks_in context.now }
 {
-    for cell in 0..JOB_LIMIT {
-        marks[cell] = context[MARKS_AT + cell];
-    }
+    marks.copy_from_slice(&context[MARKS_AT..TABLE_AT]);
 }
 
-fn word_of(e: Entry) -> u64
-    ensures { result ≡ word_of e }
-{
-    let steps = e.steps as usize;
-    (cell_of(e) + JOB_LIMIT * steps) as u64
+// A block as one word of the lent table: its cell, and its steps above it.
+impl From<Entry> for u64 {
+    ghost from_gives = { λ e word. word ≡ word_of e };
+
+    fn from(e: Entry) -> u64 {
+        (e.cell() + JOB_LIMIT * e.steps as usize) as u64
+    }
 }
 
 // The words of the blocks, at the front of the table.
@@ -30,6 +30,6 @@ pub fn load_blocks(context: &[u8], blocks: &mut [u64; JOB_LIMIT])
 {
     let n = blocks_of(context);
     for k in 0..n {
-        blocks[k] = word_of(entry_at(context, k));
+        blocks[k] = entry_at(context, k).into();
     }
 }

@@ -27,9 +27,7 @@ pub fn store_marks(context: &mut [u8], marks: &[u8; JOB_LIMIT])
     requires { MarksAsk context.old marks.now }
     ensures { context.new ≡ with_marks context.old marks.now }
 {
-    for cell in 0..JOB_LIMIT {
-        context[MARKS_AT + cell] = marks[cell];
-    }
+    context[MARKS_AT..TABLE_AT].copy_from_slice(marks);
 }
 
 // The entry that a word says.
@@ -65,14 +63,6 @@ pub fn store_blocks(context: &mut [u8], blocks: &[u64; JOB_LIMIT], from: usize, 
     }
 }
 
-fn clear(context: &mut [u8])
-    ensures { context.new ≡ replicate (length context.old) 0 }
-{
-    for i in 0..context.len() {
-        context[i] = 0;
-    }
-}
-
 // Every byte is written, so that a fresh context is always the same; false, and nothing is written, where the size is another.
 pub fn fresh(context: &mut [u8]) -> bool
     ensures { Freshened context.old context.new result }
@@ -80,7 +70,7 @@ pub fn fresh(context: &mut [u8]) -> bool
     if context.len() != CONTEXT_SIZE {
         return false;
     }
-    clear(context);
+    context.fill(0);
     context[ROWS_AT] = ROW_COUNT;
     true
 }

@@ -1,13 +1,11 @@
 -- Laws of readings and tallies that those who call the degree rule use too.
 -- Assumes nothing.
-use Rattle.std.specs.Prelude.{ℕ, ◌≤◌, ◌≡◌, refl, Bool, true, false, not, List}
+use Rattle.std.specs.Prelude.{ℕ, ◌≤◌, ◌≡◌, refl, Bool, true, false, not, List, Some, None, Ok, Err}
 use Rattle.std.proofs.Common.{sym, ◌∙◌, subst, arith, lt-ltb}
 use Rattle.std.proofs.Math.Option.{none}
 use Rattle.search_meaning.specs.Search.{Tally, Out, done, Search, next, Found, both}
-use Rattle.degree_rule.specs.declared.reading.Reading.{Reading}
-use Rattle.degree_rule.specs.declared.reading.Reading.TheVariants.{Degree, Nothing, BadKind, OverLimit}
-use Rattle.degree_rule.specs.Tallies.{tally_of, Whole, Held}
-use Rattle.degree_rule.specs.Readings.{reading_of, found_of, said_of, degree_in, is_degree, refused_in}
+use Rattle.degree_rule.specs.Tallies.{Counts, tally_of, Whole, Held}
+use Rattle.degree_rule.specs.Readings.{Reading, reading_of, found_in, said_of, degree_in, is_degree, refused_in}
 use Rattle.degree_rule.specs.Visiting.{Gives}
 
 -- ── tests ────────────────────────────────────────────────────────────────────
@@ -20,58 +18,50 @@ not_left true h = refl
 not_left false h = sym h
 
 -- ── tallies ──────────────────────────────────────────────────────────────────
-pub held_same : (t : List ℕ) → Whole t → Held t t
+pub held_same : (t : Counts) → Whole t → Held t t
 held_same t w = record { whole = w; limit = refl; degree = refl }
 
 -- one after the other
-pub held_then : {t t1 t2 : List ℕ} → Held t t1 → Held t1 t2 → Held t t2
+pub held_then : {t t1 t2 : Counts} → Held t t1 → Held t1 t2 → Held t t2
 held_then a b = record { whole = b.whole; limit = b.limit ∙ a.limit; degree = b.degree ∙ a.degree }
 
 -- ── readings ─────────────────────────────────────────────────────────────────
 -- what gave no degree goes on as it is
-pub stuck : (r : Reading) (s y : List ℕ) (f : Found → Search Found) → is_degree r ≡ false → ((k : Tally) → f none k ≡ done none k) → next (said_of r s y) f ≡ said_of r s y
-stuck (Degree n) s y f h g = absurd (let z : ◌≡◌ {A = ℕ} 0 1 = cc in omega arith)
-stuck Nothing s y f h g = g (tally_of y)
-stuck BadKind s y f h g = refl
-stuck OverLimit s y f h g = refl
+pub stuck : (r : Reading) (s : List ℕ) (y : Counts) (f : Found → Search Found) → is_degree r ≡ false → ((k : Tally) → f none k ≡ done none k) → next (said_of r s y) f ≡ said_of r s y
+stuck (Ok (Some n)) s y f h g = absurd (let z : ◌≡◌ {A = ℕ} 0 1 = cc in omega arith)
+stuck (Ok None) s y f h g = g (tally_of y)
+stuck (Err e) s y f h g = refl
 
 pub no-low : (r : Reading) (m : ℕ) → is_degree r ≡ false → degree_in r ≤ m
-no-low (Degree n) m h = absurd (let z : ◌≡◌ {A = ℕ} 0 1 = cc in omega arith)
-no-low Nothing m h = omega arith
-no-low BadKind m h = omega arith
-no-low OverLimit m h = omega arith
+no-low (Ok (Some n)) m h = absurd (let z : ◌≡◌ {A = ℕ} 0 1 = cc in omega arith)
+no-low (Ok None) m h = omega arith
+no-low (Err e) m h = omega arith
 
 -- two one after the other, of which the second follows the first
 pub pair-said :
-    (δ : ℕ → ℕ → ℕ) (q : Reading) (s y : List ℕ) (W : Found → Search Found) →
-    next (said_of q s y) (λ x k. next (W x k) (λ z k'. done (both δ x z) k')) ≡ next (next (said_of q s y) W) (λ z k. done (both δ (found_of q s) z) k)
-pair-said δ (Degree n) s y W = refl
-pair-said δ Nothing s y W = refl
-pair-said δ BadKind s y W = refl
-pair-said δ OverLimit s y W = refl
+    (δ : ℕ → ℕ → ℕ) (q : Reading) (s : List ℕ) (y : Counts) (W : Found → Search Found) →
+    next (said_of q s y) (λ x k. next (W x k) (λ z k'. done (both δ x z) k')) ≡ next (next (said_of q s y) W) (λ z k. done (both δ (found_in q s) z) k)
+pair-said δ (Ok (Some n)) s y W = refl
+pair-said δ (Ok None) s y W = refl
+pair-said δ (Err e) s y W = refl
 
--- ── readings that are not refused ────────────────────────────────────────────
-pub calm-said : (r : Reading) (s y : List ℕ) → refused_in r ≡ false → said_of r s y ≡ done (found_of r s) (tally_of y)
-calm-said (Degree n) s y h = refl
-calm-said Nothing s y h = refl
-calm-said BadKind s y h = absurd (let z : ◌≡◌ {A = ℕ} 0 1 = cc in omega arith)
-calm-said OverLimit s y h = absurd (let z : ◌≡◌ {A = ℕ} 0 1 = cc in omega arith)
+pub calm-said : (r : Reading) (s : List ℕ) (y : Counts) → refused_in r ≡ false → said_of r s y ≡ done (found_in r s) (tally_of y)
+calm-said (Ok o) s y h = refl
+calm-said (Err e) s y h = absurd (let z : ◌≡◌ {A = ℕ} 0 1 = cc in omega arith)
 
-pub refused-said : (r : Reading) (s y : List ℕ) (f : Found → Search Found) → refused_in r ≡ true → next (said_of r s y) f ≡ said_of r s y
-refused-said (Degree n) s y f h = absurd (let z : ◌≡◌ {A = ℕ} 0 1 = cc in omega arith)
-refused-said Nothing s y f h = absurd (let z : ◌≡◌ {A = ℕ} 0 1 = cc in omega arith)
-refused-said BadKind s y f h = refl
-refused-said OverLimit s y f h = refl
+pub refused-said : (r : Reading) (s : List ℕ) (y : Counts) (f : Found → Search Found) → refused_in r ≡ true → next (said_of r s y) f ≡ said_of r s y
+refused-said (Ok o) s y f h = absurd (let z : ◌≡◌ {A = ℕ} 0 1 = cc in omega arith)
+refused-said (Err e) s y f h = refl
 
 -- ── readings as numbers ──────────────────────────────────────────────────────
-pub reading-low : (n : ℕ) → n ≤ 17 → reading_of n ≡ Degree n
+pub reading-low : (n : ℕ) → n ≤ 17 → reading_of n ≡ Ok (Some n)
 reading-low n h = rw (lt-ltb n 18 (omega arith))
 
 -- what is given of a reading is given of its number
 pub to-code :
-    {says : ℕ → Out Found} {levels m : ℕ} {y s' y' : List ℕ} (c : ℕ) {r : Reading} → reading_of c ≡ r → Gives says levels m y s' y' r → Gives says levels m y s' y' (reading_of c)
+    {says : ℕ → Out Found} {levels m : ℕ} {y : Counts} {s' : List ℕ} {y' : Counts} (c : ℕ) {r : Reading} → reading_of c ≡ r → Gives says levels m y s' y' r → Gives says levels m y s' y' (reading_of c)
 to-code {says} {levels} {m} {y} {s'} {y'} c q g = subst (Gives says levels m y s' y') (sym q) g
 
 pub as_read :
-    {says : ℕ → Out Found} {levels m : ℕ} {y s' y' : List ℕ} (c : ℕ) {r : Reading} → r ≡ reading_of c → Gives says levels m y s' y' (reading_of c) → Gives says levels m y s' y' r
+    {says : ℕ → Out Found} {levels m : ℕ} {y : Counts} {s' : List ℕ} {y' : Counts} (c : ℕ) {r : Reading} → r ≡ reading_of c → Gives says levels m y s' y' (reading_of c) → Gives says levels m y s' y' r
 as_read {says} {levels} {m} {y} {s'} {y'} c q g = subst (Gives says levels m y s' y') (sym q) g

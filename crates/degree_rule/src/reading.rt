@@ -1,24 +1,37 @@
 // What reading a tree gives, and the better of two readings.
 ghost use Rattle.std.specs.Prelude.{◌≡◌, ◌≤◌};
+ghost use Rattle.kinds.specs.Answers.{blaming_none};
 ghost use Rattle.sets.specs.Members.{Good};
 ghost use Rattle.degree_rule.specs.Tallies.{Whole};
-ghost use Rattle.degree_rule.specs.Readings.{reading_of, degree_in, refused_in, settled_in, Betters, Passed};
+ghost use Rattle.degree_rule.specs.Readings.{refusal_in, reading_of, degree_at, degree_in, settled_in, Betters, Passed};
 
-use crate::tally::{TALLY_WORDS, enter};
+use crate::tally::Tally;
+use kinds::refusal::{Refusal, Refused};
 use sets::{SET_WORDS, size};
 
-// The set that goes with a degree stands beside it, in the working set.
-#[derive(Clone, Copy)]
-pub enum Reading {
-    Degree(u64),
-    Nothing,
-    // Refusal 6.
+// Why a search ends: refusal 6 or 15.
+#[derive(Clone, Copy, Debug, PartialEq, Eq)]
+pub enum Stop {
     BadKind,
-    // Refusal 15.
     OverLimit,
 }
 
-// A reading as a number, so that it comes back in a register: a degree stands for itself, and none is above 17.
+impl From<Stop> for Refused {
+    ghost from_gives = { λ s f. f ≡ blaming_none (refusal_in s) };
+
+    fn from(stop: Stop) -> Refused {
+        match stop {
+            Stop::BadKind => Refusal::SearchKind.into(),
+            Stop::OverLimit => Refusal::Visits.into(),
+        }
+    }
+}
+
+// A degree, whose set stands beside it in the working set, or none.
+pub type Reading = Result<Option<u64>, Stop>;
+
+// A reading as a number: it comes back in a register, where the recursion is thousands of calls deep and each word in its frames counts. A degree stands for itself, and
+// none is above 17.
 pub const NOTHING: u64 = 18;
 
 pub const BAD_KIND: u64 = 19;
@@ -29,15 +42,15 @@ pub fn decode(code: u64) -> Reading
     ensures { result ≡ reading_of code }
 {
     if code < NOTHING {
-        return Reading::Degree(code);
+        return Ok(Some(code));
     }
     if code == NOTHING {
-        return Reading::Nothing;
+        return Ok(None);
     }
     if code == BAD_KIND {
-        return Reading::BadKind;
+        return Err(Stop::BadKind);
     }
-    Reading::OverLimit
+    Err(Stop::OverLimit)
 }
 
 pub fn encode(reading: Reading) -> u64
@@ -45,56 +58,48 @@ pub fn encode(reading: Reading) -> u64
     ensures { reading_of result ≡ reading }
 {
     match reading {
-        Reading::Degree(degree) => degree,
-        Reading::Nothing => NOTHING,
-        Reading::BadKind => BAD_KIND,
-        Reading::OverLimit => OVER_LIMIT,
+        Ok(degree) => degree.unwrap_or(NOTHING),
+        Err(Stop::BadKind) => BAD_KIND,
+        Err(Stop::OverLimit) => OVER_LIMIT,
     }
 }
 
-pub fn is_refused(reading: Reading) -> bool
-    ensures { result ≡ refused_in reading }
+// The degree of a reading as a number, where it has one.
+pub fn degree(code: u64) -> Option<u64>
+    ensures { result ≡ degree_at (reading_of code) }
 {
-    match reading {
-        Reading::Degree(_) => false,
-        Reading::Nothing => false,
-        Reading::BadKind => true,
-        Reading::OverLimit => true,
+    if code < NOTHING {
+        return Some(code);
     }
+    None
 }
 
 // The second of two trees after a first that gave no degree: entered with no set it is one visit all the same.
-pub fn passed(first: Reading, tally: &mut [u64; TALLY_WORDS]) -> Reading
+pub fn passed(first: Reading, tally: &mut Tally) -> Reading
     requires { Whole tally.old }
     ensures { Passed first tally.old result tally.new }
 {
-    let Reading::Nothing = first else {
-        return first;
-    };
-    if enter(tally) {
-        return first;
+    let degree = first?;
+    if degree.is_none() && !tally.enter() {
+        return Err(Stop::OverLimit);
     }
-    Reading::OverLimit
+    first
 }
 
 // A smaller set replaces the best so far, so that the first smallest wins.
 pub fn better(
-    kept: Reading,
+    kept: Option<u64>,
     best: &mut [u64; SET_WORDS],
-    here: Reading,
+    here: Option<u64>,
     set: &[u64; SET_WORDS],
-) -> Reading
+) -> Option<u64>
     requires { Good best.old × Good set.now }
     ensures { Betters kept best.old here set.now result best.new }
 {
-    let Reading::Degree(_) = here else {
+    if here.is_none() {
         return kept;
-    };
-    let Reading::Degree(_) = kept else {
-        *best = *set;
-        return here;
-    };
-    if size(set) < size(best) {
+    }
+    if kept.is_none() || size(set) < size(best) {
         *best = *set;
         return here;
     }
@@ -102,12 +107,9 @@ pub fn better(
 }
 
 // The best so far adds no member.
-pub fn settled(kept: Reading, best: &[u64; SET_WORDS], before: &[u64; SET_WORDS]) -> bool
+pub fn settled(kept: Option<u64>, best: &[u64; SET_WORDS], before: &[u64; SET_WORDS]) -> bool
     requires { Good best.now × Good before.now }
     ensures { result ≡ settled_in kept best.now before.now }
 {
-    let Reading::Degree(_) = kept else {
-        return false;
-    };
-    size(best) == size(before)
+    kept.is_some() && size(best) == size(before)
 }

@@ -1,15 +1,15 @@
 // The degree rule, by the kind of a node. The working set and the tally go by reference, and a reading comes back, since the recursion is up to 4,096 nodes and 512
 // expressions deep; a set is copied only where a limit is split.
-ghost use Rattle.std.specs.Prelude.{◌≡◌, max};
+ghost use Rattle.std.specs.Prelude.{◌≡◌};
 ghost use Rattle.kinds.specs.KindBytes.{number, challenge};
 ghost use Rattle.kinds.specs.Range.{within};
 ghost use Rattle.degree_rule.specs.Readings.{reading_of};
 ghost use Rattle.degree_rule.specs.Visiting.{column_in, VisitAsked, VisitGiven, ProductAsked, ProductGiven, SplitsGiven, PairAsked, PairGiven, ReferenceAsked, ReferenceGiven};
 
 use crate::reading::{
-    BAD_KIND, NOTHING, OVER_LIMIT, Reading, better, decode, encode, is_refused, passed, settled,
+    BAD_KIND, NOTHING, OVER_LIMIT, better, decode, degree, encode, passed, settled,
 };
-use crate::tally::{DEGREE, TALLY_WORDS, cut, enter};
+use crate::tally::Tally;
 use frames::count::{EXPRESSION_LIMIT, NODE_LIMIT};
 use frames::tables::{NODE_WORDS, kind_at};
 use full_degrees::degree::NO_DEGREE;
@@ -25,21 +25,6 @@ fn is_constant(kind: u8) -> bool
         Kind::NUMBER..=Kind::CHALLENGE => true,
         _ => false,
     }
-}
-
-fn larger(a: u64, b: u64) -> u64
-    ensures { result ≡ max a b }
-{
-    if a < b {
-        return b;
-    }
-    a
-}
-
-fn wide(byte: u8) -> u64
-    ensures { result ≡ byte }
-{
-    byte as u64
 }
 
 fn column(m: u64) -> u64
@@ -58,7 +43,7 @@ pub fn visit(
     expressions: &[u64; EXPRESSION_LIMIT],
     full: &[u8; NODE_LIMIT],
     set: &mut [u64; SET_WORDS],
-    tally: &mut [u64; TALLY_WORDS],
+    tally: &mut Tally,
     levels: usize,
     m: u64,
     i: usize,
@@ -66,7 +51,7 @@ pub fn visit(
     requires { VisitAsked nodes.now expressions.now full.now set.old tally.old levels m i }
     ensures { VisitGiven nodes.now expressions.now full.now set.old tally.old set.new tally.new levels m i (reading_of result) }
 {
-    if !enter(tally) {
+    if !tally.enter() {
         return OVER_LIMIT;
     }
     match kind_at(nodes, i) {
@@ -99,7 +84,7 @@ fn product(
     expressions: &[u64; EXPRESSION_LIMIT],
     full: &[u8; NODE_LIMIT],
     set: &mut [u64; SET_WORDS],
-    tally: &mut [u64; TALLY_WORDS],
+    tally: &mut Tally,
     levels: usize,
     m: u64,
     i: usize,
@@ -118,9 +103,9 @@ fn product(
     if full[i] == NO_DEGREE {
         return BAD_KIND;
     }
-    let degree = wide(full[i]);
-    if degree <= m {
-        return degree;
+    let high = full[i] as u64;
+    if high <= m {
+        return high;
     }
     splits(nodes, expressions, full, set, tally, levels, m, i)
 }
@@ -132,7 +117,7 @@ fn splits(
     expressions: &[u64; EXPRESSION_LIMIT],
     full: &[u8; NODE_LIMIT],
     set: &mut [u64; SET_WORDS],
-    tally: &mut [u64; TALLY_WORDS],
+    tally: &mut Tally,
     levels: usize,
     m: u64,
     i: usize,
@@ -142,24 +127,21 @@ fn splits(
 {
     let before = *set;
     let mut best = *set;
-    let mut kept = Reading::Nothing;
-    let mut l = 0;
-    while l <= m {
+    let mut kept = None;
+    for l in 0..=m {
         *set = before;
         let both = pair(nodes, expressions, full, set, tally, levels, l, m - l, i);
-        let here = decode(both);
-        if is_refused(here) {
+        let Ok(here) = decode(both) else {
             return both;
-        }
+        };
         kept = better(kept, &mut best, here, set);
         if settled(kept, &best, &before) {
             *set = best;
-            return encode(kept);
+            return encode(Ok(kept));
         }
-        l += 1;
     }
     *set = best;
-    encode(kept)
+    encode(Ok(kept))
 }
 
 // Both children one after the other, at the limits l and r. The degree is the sum of both in a product, else the larger.
@@ -169,7 +151,7 @@ fn pair(
     expressions: &[u64; EXPRESSION_LIMIT],
     full: &[u8; NODE_LIMIT],
     set: &mut [u64; SET_WORDS],
-    tally: &mut [u64; TALLY_WORDS],
+    tally: &mut Tally,
     levels: usize,
     l: u64,
     r: u64,
@@ -179,19 +161,19 @@ fn pair(
     ensures { PairGiven nodes.now expressions.now full.now set.old tally.old set.new tally.new levels l r i (reading_of result) }
 {
     let left = child(nodes, i, 0);
-    let first = decode(visit(nodes, expressions, full, set, tally, levels, l, left));
-    let Reading::Degree(a) = first else {
-        return encode(passed(first, tally));
+    let first = visit(nodes, expressions, full, set, tally, levels, l, left);
+    let Some(a) = degree(first) else {
+        return encode(passed(decode(first), tally));
     };
     let right = child(nodes, i, 1);
     let second = visit(nodes, expressions, full, set, tally, levels, r, right);
-    let Reading::Degree(b) = decode(second) else {
+    let Some(b) = degree(second) else {
         return second;
     };
     if kind_at(nodes, i) == Kind::MUL {
         return a + b;
     }
-    larger(a, b)
+    a.max(b)
 }
 
 // An expression at a leaf: a member is a column; else its body is read with the degree limit d, and where that is too large it becomes a member.
@@ -201,7 +183,7 @@ pub fn reference(
     expressions: &[u64; EXPRESSION_LIMIT],
     full: &[u8; NODE_LIMIT],
     set: &mut [u64; SET_WORDS],
-    tally: &mut [u64; TALLY_WORDS],
+    tally: &mut Tally,
     levels: usize,
     m: u64,
     e: usize,
@@ -215,16 +197,16 @@ pub fn reference(
     if has(set, e) {
         return 1;
     }
-    let d = tally[DEGREE];
+    let d = tally.degree;
     let body = root(expressions, e);
     let read = visit(nodes, expressions, full, set, tally, levels - 1, d, body);
-    let Reading::Degree(degree) = decode(read) else {
+    let Some(high) = degree(read) else {
         return read;
     };
-    if degree <= m {
+    if high <= m {
         return read;
     }
     put(set, e);
-    cut(tally, degree);
+    tally.cut_at(high);
     1
 }

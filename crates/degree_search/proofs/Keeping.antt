@@ -7,17 +7,16 @@ use mathlib.Core.Option.{none, some}
 use mathlib.Core.List.{List}
 use native.Mathlib.Omega.{arith}
 use lib.Dec.{eqb, ltb}
-use lib.ListN.{length, get_or, set, length-set}
-use lib.Seq.{get_or-set_same, get_or-set_other}
+use lib.ListN.{length}
 use borrow.Author.Tests.{eq-eqb, ne_eqb, lt-ltb, le-ltb, ltb-true, ltb-false}
 use Rattle.search_meaning.specs.Search.{Found, found, keep, q_of, finish, finish_at}
 use Rattle.sets.specs.Members.{members, Good}
-use Rattle.degree_rule.specs.declared.reading.Reading.{Reading}
-use Rattle.degree_rule.specs.declared.reading.Reading.TheVariants.{Degree, Nothing, BadKind, OverLimit}
-use Rattle.degree_rule.specs.Tallies.{Whole}
-use Rattle.degree_rule.specs.Readings.{found_of, is_degree}
-use Rattle.degree_search.specs.Choosing.{Keeps, Ready, Tells}
-use Rattle.degree_search.specs.declared.choose.Searched.TheVariants as searched
+use Rattle.std.specs.Prelude.{Option, Some, None, Ok, Err}
+use Rattle.kinds.specs.Answers.{blaming_none}
+use Rattle.kinds.specs.declared.refusal.Refusal.TheVariants as refusal
+use Rattle.degree_rule.specs.Tallies.{Counts, Whole}
+use Rattle.degree_rule.specs.Readings.{found_of}
+use Rattle.degree_search.specs.Choosing.{Keeps, Fresh, Ready, Tells}
 
 -- ── size and q ───────────────────────────────────────────────────────────────
 pub q-none : (d : ℕ) → d ≡ 0 → 18446744073709551615 ≡ q_of d
@@ -58,64 +57,46 @@ pub replaces_by : (k s d o : ℕ) {q p : ℕ} → q ≡ q_of k → (q ≡ 0 → 
 replaces_by k s d o e h f g = g ∙ ap₂ (λ p q. ltb (s + p) (o + q)) f e ∙ sym (ap (λ c. c || ltb (s + q_of d) (o + q_of k)) (ne_eqb (q_of k) 0 (λ z. h (e ∙ z))))
 
 -- ── which is kept ────────────────────────────────────────────────────────────
-foundless : (r : Reading) (s : List ℕ) → is_degree r ≡ false → found_of r s ≡ none
-foundless (Degree n) s h = absurd (let z : ◌≡◌ {A = ℕ} 0 1 = cc in omega arith)
-foundless Nothing s h = refl
-foundless BadKind s h = refl
-foundless OverLimit s h = refl
-
-pub keeps-none : (kept : Reading) (best : List ℕ) (here : Reading) (s : List ℕ) → Good best → is_degree here ≡ false → Keeps kept best here s kept best
-keeps-none kept best here s g h = record { is = sym (ap (keep (found_of kept best)) (foundless here s h) ∙ last (found_of kept best)); good = g }
+pub keeps-none : (kept : Option ℕ) (best : List ℕ) {here : Option ℕ} (s : List ℕ) → Good best → here ≡ None → Keeps kept best here s kept best
+keeps-none kept best {here} s g h = rw h (record { is = sym (last (found_of kept best)); good = g })
   where
     last : (x : Found) → keep x none ≡ x
     last none = refl
     last (some r) = refl
 
-module _ {kept : Reading} (best : List ℕ) {here : Reading} (s : List ℕ) {i : ℕ} (qi : here ≡ Degree i) where
-  pub takes_first : is_degree kept ≡ false → Good s → Keeps kept best here s (Degree i) s
-  takes_first h g = record { is = rw qi (sym (ap (λ x. keep x (found (members s) i)) (foundless kept best h))); good = g }
+module _ {kept : Option ℕ} (best : List ℕ) {here : Option ℕ} (s : List ℕ) {i : ℕ} (qi : here ≡ Some i) where
+  pub takes_first : kept ≡ None → Good s → Keeps kept best here s (Some i) s
+  takes_first h g = rw (qi, h) (record { is = refl; good = g })
 
-  module _ {k : ℕ} (qk : kept ≡ Degree k) {a b : ℕ} (ea : a ≡ length (members s)) (eb : b ≡ length (members best)) {r : Bool} (er : r ≡ (eqb (q_of k) 0 || ltb (a + q_of i) (b + q_of k))) where
+  module _ {k : ℕ} (qk : kept ≡ Some k) {a b : ℕ} (ea : a ≡ length (members s)) (eb : b ≡ length (members best)) {r : Bool} (er : r ≡ (eqb (q_of k) 0 || ltb (a + q_of i) (b + q_of k))) where
     kept_by : keep (found_of kept best) (found_of here s) ≡ cond r (found (members s) i) (found (members best) k)
     kept_by = rw (qi, qk, er, ea, eb)
 
-    pub takes-better : r ≡ true → Good s → Keeps kept best here s (Degree i) s
+    pub takes-better : r ≡ true → Good s → Keeps kept best here s (Some i) s
     takes-better h g = record { is = sym (kept_by ∙ ap (λ c. cond c (found (members s) i) (found (members best) k)) h); good = g }
 
-    pub keeps-better : r ≡ false → Good best → Keeps kept best here s (Degree k) best
+    pub keeps-better : r ≡ false → Good best → Keeps kept best here s (Some k) best
     keeps-better h g = record { is = sym (kept_by ∙ ap (λ c. cond c (found (members s) i) (found (members best) k)) h); good = g }
 
 -- ── the end ──────────────────────────────────────────────────────────────────
-module _ (kept : Reading) (best w : List ℕ) (v : ℕ) where
-  pub end_none : is_degree kept ≡ false → Good best → Tells (finish (found_of kept best) v) w w searched.NoSet
-  end_none h g = rw (foundless kept best h) (record { says = refl; set = refl })
+module _ {kept : Option ℕ} (best w : List ℕ) (v : ℕ) where
+  pub end_none : kept ≡ None → Good best → Tells (finish (found_of kept best) v) w w (Err (blaming_none refusal.NoSet))
+  end_none h g = rw h (record { says = refl; set = refl })
 
-  module _ {d : ℕ} (q : kept ≡ Degree d) where
-    pub end-minus : d ≡ 0 → Good best → Tells (finish (found_of kept best) v) w w searched.NoQuotient
+  module _ {d : ℕ} (q : kept ≡ Some d) where
+    pub end-minus : d ≡ 0 → Good best → Tells (finish (found_of kept best) v) w w (Err (blaming_none refusal.NoQuotient))
     end-minus h g = rw (q, h) (record { says = refl; set = refl })
 
-    pub end-found : (d ≡ 0 → ⊥) → Good best → Tells (finish (found_of kept best) v) w best (searched.Found (d - 1) v)
+    pub end-found : (d ≡ 0 → ⊥) → Good best → Tells (finish (found_of kept best) v) w best (Ok (record { q = d - 1; visits = v }))
     end-found h g = rw q (go d h)
       where
-        go : (d : ℕ) → (d ≡ 0 → ⊥) → Tells (finish_at (members best) v d) w best (searched.Found (d - 1) v)
+        go : (d : ℕ) → (d ≡ 0 → ⊥) → Tells (finish_at (members best) v d) w best (Ok (record { q = d - 1; visits = v }))
         go zero h = absurd (h refl)
         go (suc d) h = let z : suc d - 1 ≡ d = omega arith in rw z (record { says = refl; set = g })
 
--- ── four words ───────────────────────────────────────────────────────────────
-module _ (y : List ℕ) (w : Whole y) (d : ℕ) where
-  abbrev once : List ℕ
-  once = set y 0 0
+-- ── the tally ────────────────────────────────────────────────────────────────
+pub fresh-is : (n : ℕ) → n < 0x10000000000000000 → Fresh n (record { cut = 0; visits = 0; limit = n; degree = 2 })
+fresh-is n h = record { whole = record { fits = h }; visits = refl; limit = refl }
 
-  pub ready-is : Ready y d (set once 3 d)
-  ready-is =
-      let n : length once ≡ 4 = length-set y 0 0 ∙ w.whole in
-      let a0 : get_or (set once 3 d) 0 0 ≡ 0 = get_or-set_other once 3 0 d 0 (λ (q : 0 ≡ 3). omega arith) ∙ get_or-set_same y 0 0 0 (omega (arith, w.whole)) in
-      let a1 : get_or (set once 3 d) 1 0 ≡ get_or y 1 0 = get_or-set_other once 3 1 d 0 (λ (q : 1 ≡ 3). omega arith) ∙ get_or-set_other y 0 1 0 0 (λ (q : 1 ≡ 0). omega arith) in
-      let a2 : get_or (set once 3 d) 2 0 ≡ get_or y 2 0 = get_or-set_other once 3 2 d 0 (λ (q : 2 ≡ 3). omega arith) ∙ get_or-set_other y 0 2 0 0 (λ (q : 2 ≡ 0). omega arith) in
-      record {
-        whole = record { whole = length-set once 3 d ∙ n; fits = omega (arith, a2, w.fits) };
-        cut = a0;
-        visits = a1;
-        limit = a2;
-        degree = get_or-set_same once 3 d 0 (omega (arith, n));
-      }
+pub ready-is : (y : Counts) → Whole y → (d : ℕ) → Ready y d (record { cut = 0; visits = y.visits; limit = y.limit; degree = d })
+ready-is y w d = record { whole = record { fits = w.fits }; cut = refl; visits = refl; limit = refl; degree = refl }

@@ -2,29 +2,27 @@
 -- Assumes nothing.
 use Prim.Native.Nat.{ℕ, zero, suc, ◌+◌, ◌-◌, ◌*◌, ◌%◌, ◌^◌, ◌<◌, ◌≤◌}
 use mathlib.Core.Path.{◌≡◌, refl, sym, ◌∙◌, ap, ap₂, subst}
-use mathlib.Core.Bool.{Bool, true, false, cond}
+use mathlib.Core.Bool.{Bool, true, false, cond, ◌&&◌}
+use Rattle.std.specs.List.{list_all}
 use mathlib.Core.Option.{Option, none, some}
 use mathlib.Core.List.{List, [], ◌∷◌}
 use native.Mathlib.Omega.{arith}
-use native.Mathlib.Nat.{one-mul, not-suc-le-zero, le_of_suc-le-suc}
-use lib.Dec.{eqb, ltb, leb}
+use native.Mathlib.Nat.{one-mul, not-suc-le-zero}
+use lib.Dec.{ltb, leb}
 use lib.Pow.{shl_exact}
 use lib.ListN.{length, get_or}
-use borrow.Author.Tests.{le-leb, lt-leb, leb-true, leb-false, lt-ltb, le-ltb, ltb-true, eqb-true, eqb-false}
+use borrow.Author.Tests.{leb-true, ltb-true}
 use Rattle.meaning.specs.Refusals.{Refusal, Answer, done, refused}
 use Rattle.meaning.specs.Trees.{Forest}
 use Rattle.meaning.proofs.Laws.Tests.{done-same, done-not-refused, true-false}
 use Rattle.search_meaning.specs.Search.{Choice, bits_ok, all_below, unless, folds, tries, search}
-use Rattle.frames.specs.Order.{Input, blame_answer}
+use Rattle.frames.specs.Order.{Input}
 use Rattle.frames.specs.Tables as frames
 use Rattle.frames.specs.Tables.{input_in}
 use Rattle.frames.specs.Reading.{frames_in, reading, held, Fills}
 use Rattle.frames.specs.Exactly.{read_as}
 use Rattle.frames.specs.Limits.{held-within}
 use Rattle.frames.specs.declared.count.Counts.{Counts}
-use Rattle.frames.specs.declared.count.Blame.{Blame}
-use Rattle.frames.specs.declared.count.Reading.{Reading}
-use Rattle.frames.specs.declared.count.Reading.TheVariants as was
 use Rattle.pool.specs.Pool.{Pool}
 use Rattle.pool.specs.Trees.{forest}
 use Rattle.pool.specs.Verdict.{Verdict}
@@ -33,36 +31,19 @@ use Rattle.pool.specs.Tabled.{Tables, tabled}
 use Rattle.pool.specs.Ranking.{Tabling}
 use Rattle.pool.specs.Numbered.{pool_of}
 use Rattle.pool.specs.Admitting.{Fits, Admits, verdict_says}
-use Rattle.pool.specs.declared.admit.Admission.{Admission}
-use Rattle.pool.specs.declared.admit.Verdict as admit
 use Rattle.pool.specs.Laws.Forest.{forest-size, acyclic-ranked}
 use Rattle.pool.specs.Laws.Tabled.{expression-count}
 use Rattle.full_degrees.specs.Table.{World, Fulls}
 use Rattle.degree_search.specs.Choosing.{Asks, searched_says, Tells}
 use Rattle.degree_search.specs.Searching.{Question, asking, searched, Answers, Runs, PoolAsked, RunIs}
-use Rattle.degree_search.specs.declared.choose.Searched.{Searched}
-use Rattle.degree_search.specs.declared.choose.Searched.TheVariants as found
-use Rattle.degree_search.specs.declared.search.Outcome.TheVariants as outcome
+use Rattle.std.specs.Prelude.{Result, Ok, Err}
+use Rattle.kinds.specs.Answers.{refusal_of, blame_of, blaming_none}
+use Rattle.kinds.specs.declared.refusal.Refusal.TheVariants as refusal
+use Rattle.kinds.specs.declared.refusal.Refused.{Refused}
+use Rattle.degree_search.specs.declared.choose.Found.{Found}
 
 -- ── bits ─────────────────────────────────────────────────────────────────────
 module _ (n e : ℕ) where
-  pub bits-high : 24 < n → false ≡ bits_ok n e
-  bits-high h = sym (ap (λ b. cond b (cond (leb n e) (leb e (n + 4)) false) false) (lt-leb n 24 h))
-
-  module _ (h : n ≤ 24) where
-    bits-by : bits_ok n e ≡ cond (leb n e) (leb e (n + 4)) false
-    bits-by = ap (λ b. cond b (cond (leb n e) (leb e (n + 4)) false) false) (le-leb n 24 h)
-
-    pub bits_less : e < n → false ≡ bits_ok n e
-    bits_less l = sym (bits-by ∙ ap (λ b. cond b (leb e (n + 4)) false) (lt-leb n e l))
-
-    pub bits-more : n ≤ e → leb (e - n) 4 ≡ bits_ok n e
-    bits-more l = go (leb (e - n) 4) refl ∙ sym (bits-by ∙ ap (λ b. cond b (leb e (n + 4)) false) (le-leb n e l))
-      where
-        go : (b : Bool) → leb (e - n) 4 ≡ b → b ≡ leb e (n + 4)
-        go true q = let z : e - n ≤ 4 = leb-true _ _ q in sym (le-leb e (n + 4) (omega arith))
-        go false q = let z : 4 < e - n = leb-false _ _ q in sym (lt-leb e (n + 4) (omega arith))
-
   pub bits_range : bits_ok n e ≡ true → (n ≤ e) × (e - n ≤ 4)
   bits_range h = go (leb n 24) (leb n e) refl (leb e (n + 4)) refl h
     where
@@ -84,20 +65,13 @@ pow_low (suc (suc (suc (suc zero)))) h = (omega arith, omega arith)
 pow_low (suc (suc (suc (suc (suc k))))) h = absurd (omega arith)
 
 -- ── identities that are there ────────────────────────────────────────────────
-pub below-some : (m : ℕ) (l : List ℕ) (k : ℕ) → k < length l → m ≤ get_or l k 0 → false ≡ all_below m l
-below-some m [] k h g = absurd (not-suc-le-zero h)
-below-some m (x ∷ l) zero h g = sym (ap (λ b. cond b (all_below m l) false) (le-ltb x m g))
-below-some m (x ∷ l) (suc k) h g = go (ltb x m) (below-some m l k (le_of_suc-le-suc h) g)
+pub all-below-is : (m : ℕ) (l : List ℕ) → list_all (λ x. ltb x m) l ≡ all_below m l
+all-below-is m [] = refl
+all-below-is m (x ∷ l) = go (ltb x m) (all-below-is m l)
   where
-    go : (b : Bool) → false ≡ all_below m l → false ≡ cond b (all_below m l) false
-    go true q = q
-    go false q = refl
-
-pub below_all : (m : ℕ) (l : List ℕ) → ((k : ℕ) → k < length l → get_or l k 0 < m) → true ≡ all_below m l
-below_all m [] h = refl
-below_all m (x ∷ l) h =
-    let z : x < m = h 0 (omega arith) in
-    below_all m l (λ k g. h (suc k) (omega arith)) ∙ sym (ap (λ b. cond b (all_below m l) false) (lt-ltb x m z))
+    go : (b : Bool) → list_all (λ x. ltb x m) l ≡ all_below m l → (b && list_all (λ x. ltb x m) l) ≡ cond b (all_below m l) false
+    go true ih = ih
+    go false ih = refl
 
 pub each_below : (m : ℕ) (l : List ℕ) → all_below m l ≡ true → (k : ℕ) → k < length l → get_or l k 0 < m
 each_below m [] h k g = absurd (not-suc-le-zero g)
@@ -107,17 +81,6 @@ each_below m (x ∷ l) h k g = go (each_below m l) (ltb x m) refl h k g
     go ih true q h zero g = ltb-true x m q
     go ih true q h (suc k) g = ih h k (omega arith)
     go ih false q h k g = absurd (true-false h refl)
-
--- the first k are there
-abbrev pub Below : ℕ → List ℕ → ℕ → Type 0
-Below m l n = (k : ℕ) → k < n → get_or l k 0 < m
-
-pub below_more : (m : ℕ) (l : List ℕ) {n : ℕ} → Below m l n → get_or l n 0 < m → Below m l (n + 1)
-below_more m l {n} h g k u = go (eqb k n) refl
-  where
-    go : (b : Bool) → eqb k n ≡ b → get_or l k 0 < m
-    go true q = let z : k ≡ n = eqb-true k n q in rw z g
-    go false q = let z : k ≡ n → ⊥ = eqb-false k n q in h k (omega arith)
 
 -- ── the search by its tests ──────────────────────────────────────────────────
 search-by :
@@ -136,17 +99,17 @@ module _ {v l x : List ℕ} {n m : ℕ} {rank : ℕ → ℕ} (world : World (Tab
   abbrev t : Tables
   t = Tabling v l x n m
 
-  abbrev Tell : ℕ → List ℕ → Searched → Type 0
+  abbrev Tell : ℕ → List ℕ → Result Found Refused → Type 0
   Tell vc w' r = Tells (searched (tabled t) (asking es vc b e limit)) w w' r
 
   size_is : length (forest (tabled t)) ≡ m
   size_is = forest-size (tabled t) ∙ expression-count t
 
   -- a refusal
-  no : {k : Refusal} {r : Searched} → ((w : List ℕ) → searched_says r w ≡ refused k none) → (vc : ℕ) → searched (tabled t) (asking es vc b e limit) ≡ refused k none → Tell vc w r
+  no : {k : Refusal} {r : Result Found Refused} → ((w : List ℕ) → searched_says r w ≡ refused k none) → (vc : ℕ) → searched (tabled t) (asking es vc b e limit) ≡ refused k none → Tell vc w r
   no h vc q = rw q (record { says = h w; set = refl })
 
-  pub no_identity : length es ≡ 0 → (vc : ℕ) → Tell vc w found.NoIdentity
+  pub no_identity : length es ≡ 0 → (vc : ℕ) → Tell vc w (Err (blaming_none refusal.NoIdentity))
   no_identity h vc = no (λ w. refl) vc (search-none (forest (tabled t)) es vc b e (some limit) h)
 
   module _ (some' : length es ≡ 0 → ⊥) where
@@ -155,7 +118,7 @@ module _ {v l x : List ℕ} {n m : ℕ} {rank : ℕ → ℕ} (world : World (Tab
         search-by (forest (tabled t)) es vc b e (some limit) some'
         ∙ ap (λ k. unless Refusal.bits (bits_ok b e) (unless Refusal.not_there (all_below k es) (tries (some limit) (forest (tabled t)) (folds vc es) (2 ^ (e - b)) 2 none 0))) size_is
 
-    pub no_bits : {r : Bool} → r ≡ bits_ok b e → r ≡ false → (vc : ℕ) → Tell vc w found.Bits
+    pub no_bits : {r : Bool} → r ≡ bits_ok b e → r ≡ false → (vc : ℕ) → Tell vc w (Err (blaming_none refusal.Bits))
     no_bits h q vc = no (λ w. refl) vc (by vc ∙ ap (λ c. unless Refusal.bits c (unless Refusal.not_there (all_below m es) (tries (some limit) (forest (tabled t)) (folds vc es) (2 ^ (e - b)) 2 none 0))) (sym h ∙ q))
 
     module _ {r : Bool} (rh : r ≡ bits_ok b e) (rq : r ≡ true) {s : Bool} (sh : s ≡ all_below m es) where
@@ -163,7 +126,7 @@ module _ {v l x : List ℕ} {n m : ℕ} {rank : ℕ → ℕ} (world : World (Tab
       in_range vc =
           by vc ∙ ap₂ (λ c d. unless Refusal.bits c (unless Refusal.not_there d (tries (some limit) (forest (tabled t)) (folds vc es) (2 ^ (e - b)) 2 none 0))) (sym rh ∙ rq) (sym sh)
 
-      pub no-expression : s ≡ false → (vc : ℕ) → Tell vc w found.Lost
+      pub no-expression : s ≡ false → (vc : ℕ) → Tell vc w (Err (blaming_none refusal.NotThere))
       no-expression q vc = no (λ w. refl) vc (in_range vc ∙ ap (λ c. unless Refusal.not_there c (tries (some limit) (forest (tabled t)) (folds vc es) (2 ^ (e - b)) 2 none 0)) q)
 
       pub range : (b ≤ e) × (e - b ≤ 4)
@@ -185,7 +148,7 @@ module _ {v l x : List ℕ} {n m : ℕ} {rank : ℕ → ℕ} (world : World (Tab
             some_one : (n : ℕ) → (n ≡ 0 → ⊥) → 1 ≤ n
             some_one n h = omega arith
 
-        pub chosen : {w' : List ℕ} {o : Searched} → ((vc : ℕ) → Tells (tries (some limit) (forest (tabled t)) (folds vc es) (last - 1) 2 none 0) w w' o) → (vc : ℕ) → Tell vc w' o
+        pub chosen : {w' : List ℕ} {o : Result Found Refused} → ((vc : ℕ) → Tells (tries (some limit) (forest (tabled t)) (folds vc es) (last - 1) 2 none 0) w w' o) → (vc : ℕ) → Tell vc w' o
         chosen {w'} {o} h vc =
             let z : last - 1 ≡ 2 ^ (e - b) = let y : last ≡ 2 ^ (e - b) + 1 = lq ∙ ap (λ k. 2 ^ k + 1) kq in omega (arith, y) in
             subst (λ a. Tells a w w' o)
@@ -197,11 +160,11 @@ module _ (v x : List ℕ) (c : Counts) (a : PoolAsked c) (l : List ℕ) where
   abbrev p : Pool
   p = tabled (Tabling v l x c.nodes c.expressions)
 
-  pub judged_as : {u : List ℕ} {d : Admission} → Admits (Tabling v l x c.nodes c.expressions) u d → u ≡ [] → {o : admit.Verdict} → d.verdict ≡ o → Verdict p [] (verdict_says o)
-  judged_as {d = d} h e q = subst (λ z. Verdict p [] (verdict_says z)) q (subst (λ (u : List ℕ). Verdict p u (verdict_says d.verdict)) e h.judged)
+  pub judged_as : {u : List ℕ} {d : Result (List ℕ) Refused} → Admits (Tabling v l x c.nodes c.expressions) u d → u ≡ [] → {o : Result (List ℕ) Refused} → d ≡ o → Verdict p [] (verdict_says o)
+  judged_as {d = d} h e q = subst (λ z. Verdict p [] (verdict_says z)) q (subst (λ (u : List ℕ). Verdict p u (verdict_says d)) e h.judged)
 
   pub refused-pool :
-      {k : Refusal} {o : Option ℕ} → Verdict p [] (refused k o) → (q : Question) (w : List ℕ) (r : Searched) → searched_says r w ≡ refused k o →
+      {k : Refusal} {o : Option ℕ} → Verdict p [] (refused k o) → (q : Question) (w : List ℕ) (r : Result Found Refused) → searched_says r w ≡ refused k o →
       (z : Answer Choice) × Answers p q z × Tells z w w r
   refused-pool {k} {o} h q w r e = (refused k o, (refused k o, h, refl), record { says = e; set = refl })
 
@@ -217,14 +180,14 @@ module _ (v x : List ℕ) (c : Counts) (a : PoolAsked c) (l : List ℕ) where
           ranked = acyclic-ranked p s.1;
         }
 
-    pub searched-pool : (q : Question) {w w' : List ℕ} {r : Searched} → Tells (searched p q) w w' r → (z : Answer Choice) × Answers p q z × Tells z w w' r
+    pub searched-pool : (q : Question) {w w' : List ℕ} {r : Result Found Refused} → Tells (searched p q) w w' r → (z : Answer Choice) × Answers p q z × Tells z w w' r
     searched-pool q t = (searched p q, (done tt, h, refl), t)
 
 pub pool-fits : {c : Counts} → PoolAsked c → Fits [] c.nodes c.expressions
 pool-fits a = record { nodes = a.nodes; expressions = a.expressions; tabulated = λ u z. absurd z }
 
 -- ── what was read ────────────────────────────────────────────────────────────
-module _ {s : List ℕ} {u : frames.Tables} {r : Reading} (f : Fills s r u) (q : Question) where
+module _ {s : List ℕ} {u : frames.Tables} {r : Result Counts Refused} (f : Fills s r u) (q : Question) where
   unread : {k : Refusal} {o : Option ℕ} → refused k o ≡ reading s → Runs (reading s) q (refused k o)
   unread h = record { unread = λ k o e. same (h ∙ e); judged = λ i e. absurd (done-not-refused (sym e ∙ sym h)) }
     where
@@ -234,13 +197,10 @@ module _ {s : List ℕ} {u : frames.Tables} {r : Reading} (f : Fills s r u) (q :
           let b : o ≡ o' = cc in
           rw (a, b)
 
-  pub malformed-run : {b : Blame} → r ≡ was.Malformed b → (w : List ℕ) → RunIs (reading s) q w w (outcome.Malformed b)
-  malformed-run {b} e w = record { answer = refused Refusal.malformed (blame_answer b); runs = unread (ap (held u) (sym e) ∙ f.answer); says = refl; set = refl }
+  pub stopped-run : {b : Refused} → r ≡ Err b → (w : List ℕ) → RunIs (reading s) q w w (Err b)
+  stopped-run {b} e w = record { answer = refused (refusal_of b.refusal) (blame_of b.node); runs = unread (ap (held u) (sym e) ∙ f.answer); says = refl; set = refl }
 
-  pub limit-run : {b : Blame} → r ≡ was.Full b → (w : List ℕ) → RunIs (reading s) q w w (outcome.Limit b)
-  limit-run {b} e w = record { answer = refused Refusal.full (blame_answer b); runs = unread (ap (held u) (sym e) ∙ f.answer); says = refl; set = refl }
-
-  module _ {c : Counts} (e : r ≡ was.Read c) where
+  module _ {c : Counts} (e : r ≡ Ok c) where
     read_is : done (input_in u c) ≡ reading s
     read_is = ap (held u) (sym e) ∙ f.answer
 
@@ -249,8 +209,8 @@ module _ {s : List ℕ} {u : frames.Tables} {r : Reading} (f : Fills s r u) (q :
     pool-is = refl
 
     pub ran-run :
-        {w w' : List ℕ} {o : Searched} →
-        (a : Answer Choice) × Answers (tabled (Tabling u.nodes u.literals u.expressions c.nodes c.expressions)) q a × Tells a w w' o → RunIs (reading s) q w w' (outcome.Ran o)
+        {w w' : List ℕ} {o : Result Found Refused} →
+        (a : Answer Choice) × Answers (tabled (Tabling u.nodes u.literals u.expressions c.nodes c.expressions)) q a × Tells a w w' o → RunIs (reading s) q w w' o
     ran-run g = record {
       answer = g.0;
       runs = record {
@@ -263,7 +223,7 @@ module _ {s : List ℕ} {u : frames.Tables} {r : Reading} (f : Fills s r u) (q :
       set = g.2.set;
     }
 
-pub read_fits : {s : List ℕ} {u : frames.Tables} {r : Reading} → Fills s r u → {c : Counts} → r ≡ was.Read c → PoolAsked c
+pub read_fits : {s : List ℕ} {u : frames.Tables} {r : Result Counts Refused} → Fills s r u → {c : Counts} → r ≡ Ok c → PoolAsked c
 read_fits {s} {u} f {c} e =
     let w = held-within (frames_in s) u c (ap (held u) (sym e) ∙ f.answer ∙ read_as s) in
     record { nodes = w.nodes; expressions = w.expressions }

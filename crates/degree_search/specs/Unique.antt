@@ -1,6 +1,6 @@
 -- ONLY ONE ANSWER FITS a pool and a question, and what was read of any frames; and each number of a search from frames exactly when.
 -- Assumes nothing.
-use Rattle.std.specs.Prelude.{ℕ, ◌^◌, ◌<◌, ◌≡◌, refl, List, [], ◌↔◌, get_or}
+use Rattle.std.specs.Prelude.{ℕ, ◌^◌, ◌<◌, ◌≡◌, refl, List, [], ◌↔◌, get_or, Result, Ok, Err}
 use Rattle.std.proofs.Common.{sym, ◌∙◌, ap, subst}
 use Rattle.std.proofs.Math.Option.{Option}
 use Rattle.meaning.specs.Refusals.{Refusal, Answer, done, refused, ◌then◌, answer_no}
@@ -16,12 +16,10 @@ use Rattle.pool.specs.Exactly.{one_answer, exactly_0}
 use Rattle.pool.specs.Numbered.{pool_of}
 use Rattle.sets.specs.Members.{members}
 use Rattle.sets.proofs.Words.{words_same}
-use Rattle.degree_search.specs.Choosing.{searched_says, SetAfter}
+use Rattle.degree_search.specs.Choosing.{SetAfter}
 use Rattle.degree_search.specs.Searching.{Question, searched, Answers, Runs, outcome_says, RunIs}
-use Rattle.degree_search.specs.declared.choose.Searched.{Searched}
-use Rattle.degree_search.specs.declared.choose.Searched.TheVariants as found
-use Rattle.degree_search.specs.declared.search.Outcome.{Outcome}
-use Rattle.degree_search.specs.declared.search.Outcome.TheVariants as outcome
+use Rattle.degree_search.specs.declared.choose.Found.{Found}
+use Rattle.kinds.specs.declared.refusal.Refused.{Refused}
 
 pub one-answers : (p : Pool) (q : Question) (a b : Answer Choice) → Answers p q a → Answers p q b → a ≡ b
 one-answers p q a b x y = x.2 ∙ ap (λ v. v then λ _. searched p q) (one_answer p [] x.0 y.0 x.1 y.1) ∙ sym y.2
@@ -31,7 +29,7 @@ one-run (done i) q a b x y = one-answers (pool_of i) q a b (x.judged i refl) (y.
 one-run (refused k o) q a b x y = x.unread k o refl ∙ sym (y.unread k o refl)
 
 -- ONLY ONE OUTCOME FITS: what it says, with the set beside it, is the same
-pub one-outcome : {x : Answer Input} {q : Question} {w w1 w2 : List ℕ} {r1 r2 : Outcome} → RunIs x q w w1 r1 → RunIs x q w w2 r2 → outcome_says r1 w1 ≡ outcome_says r2 w2
+pub one-outcome : {x : Answer Input} {q : Question} {w w1 w2 : List ℕ} {r1 r2 : Result Found Refused} → RunIs x q w w1 r1 → RunIs x q w w2 r2 → outcome_says r1 w1 ≡ outcome_says r2 w2
 one-outcome {x} {q} a b = a.says ∙ one-run x q a.answer b.answer a.runs b.runs ∙ sym b.says
 
 -- EACH NUMBER OF A SEARCH OVER AN ADMITTED POOL EXACTLY WHEN its row holds
@@ -52,27 +50,13 @@ not_done : {P : Type 0} {k : Refusal} {o : Option ℕ} {c : Choice} → ◌≡�
 not_done h = absurd (done-not-refused (sym h))
 
 -- an accepted choice's members are those of the words beside it
-said-members : (r : Outcome) (w : List ℕ) (c : Choice) → outcome_says r w ≡ done c → members w ≡ c.set
-said-members (outcome.Malformed b) w c h = not_done h
-said-members (outcome.Limit b) w c h = not_done h
-said-members (outcome.Ran s) w c h = by s h
-  where
-    by : (s : Searched) → searched_says s w ≡ done c → members w ≡ c.set
-    by (found.ChildCount i) h = not_done h
-    by (found.NotThere i) h = not_done h
-    by found.Lost h = not_done h
-    by (found.Cycle i) h = not_done h
-    by found.NoIdentity h = not_done h
-    by found.Bits h = not_done h
-    by found.BadKind h = not_done h
-    by found.OverLimit h = not_done h
-    by found.NoSet h = not_done h
-    by found.NoQuotient h = not_done h
-    by (found.Found q v) h = ap (λ (c : Choice). c.set) (done-same _ _ h)
+said-members : (r : Result Found Refused) (w : List ℕ) (c : Choice) → outcome_says r w ≡ done c → members w ≡ c.set
+said-members (Ok x) w c h = ap (λ (c : Choice). c.set) (done-same _ _ h)
+said-members (Err f) w c h = not_done h
 
 -- ONLY ONE LENT SET FITS: 64-bit words are the same
 pub one_set :
-    {x : Answer Input} {q : Question} {w w1 w2 : List ℕ} {r1 r2 : Outcome} → RunIs x q w w1 r1 → RunIs x q w w2 r2 →
+    {x : Answer Input} {q : Question} {w w1 w2 : List ℕ} {r1 r2 : Result Found Refused} → RunIs x q w w1 r1 → RunIs x q w w2 r2 →
     ((i : ℕ) → get_or w1 i 0 < 2 ^ 64) → ((i : ℕ) → get_or w2 i 0 < 2 ^ 64) → w1 ≡ w2
 one_set {x} {q} {w} {w1} {w2} {r1} {r2} a b f g =
     go a.answer a.says a.set (b.says ∙ sym e) (subst (λ z. SetAfter z w w2) (sym e) b.set)

@@ -3,11 +3,12 @@ ghost use Rattle.std.specs.Prelude.{◌≡◌, ◌+◌, ◌≤◌, ◌^◌};
 ghost use Rattle.search_meaning.specs.Search.{bits_ok, all_below};
 ghost use Rattle.degree_search.specs.Searching.{AdmittedAsked, AdmittedGiven};
 
-use crate::choose::{Searched, choose};
+use crate::choose::{Found, choose};
 use frames::count::{EXPRESSION_LIMIT, NODE_LIMIT};
 use frames::tables::NODE_WORDS;
 use full_degrees::degree::UNKNOWN;
 use full_degrees::table::fill;
+use kinds::refusal::{Refusal, Refused};
 use sets::SET_WORDS;
 
 // nBits is at most this, and nBitsExt at most so many more.
@@ -18,13 +19,7 @@ const MORE_LIMIT: u64 = 4;
 fn bits_ok(n_bits: u64, n_bits_ext: u64) -> bool
     ensures { result ≡ bits_ok n_bits n_bits_ext }
 {
-    if BITS_LIMIT < n_bits {
-        return false;
-    }
-    if n_bits_ext < n_bits {
-        return false;
-    }
-    n_bits_ext - n_bits <= MORE_LIMIT
+    n_bits <= BITS_LIMIT && n_bits <= n_bits_ext && n_bits_ext - n_bits <= MORE_LIMIT
 }
 
 // The last degree limit.
@@ -38,12 +33,7 @@ fn last_limit(more: u64) -> u64
 pub fn all_below(identities: &[u64], m: usize) -> bool
     ensures { result ≡ all_below m identities.now }
 {
-    for k in 0..identities.len() {
-        if m <= identities[k] as usize {
-            return false;
-        }
-    }
-    true
+    identities.iter().all(|e| (*e as usize) < m)
 }
 
 // Of n nodes and m expressions. Where it is refused, `chosen` has not changed.
@@ -57,18 +47,18 @@ pub fn search_admitted(
     limit: u64,
     n: usize,
     m: usize,
-) -> Searched
+) -> Result<Found, Refused>
     requires { AdmittedAsked nodes.now expressions.now n m }
     ensures { AdmittedGiven nodes.now expressions.now identities.now chosen.old chosen.new n_bits n_bits_ext limit n m result }
 {
     if identities.len() == 0 {
-        return Searched::NoIdentity;
+        return Err(Refusal::NoIdentity.into());
     }
     if !bits_ok(n_bits, n_bits_ext) {
-        return Searched::Bits;
+        return Err(Refusal::Bits.into());
     }
     if !all_below(identities, m) {
-        return Searched::Lost;
+        return Err(Refusal::NotThere.into());
     }
     let mut full = [UNKNOWN; NODE_LIMIT];
     fill(nodes, expressions, &mut full, n, m);

@@ -1,45 +1,33 @@
 // The candidate of one degree limit: the identities folded as vc·c + e, read from no members. The fold is a loop: the visits of its add and mul nodes come first, then
 // the identities in order.
-ghost use Rattle.std.specs.Prelude.{◌≡◌, max};
+ghost use Rattle.std.specs.Prelude.{◌≡◌};
 ghost use Rattle.degree_rule.specs.Tallies.{Whole};
 ghost use Rattle.degree_search.specs.Candidates.{Ticked, top_in, IdentityAsked, IdentityGiven, IdentitiesAsked, IdentitiesGiven, CandidateGiven};
 
-use degree_rule::reading::{Reading, decode, passed};
+use degree_rule::reading::{Reading, Stop, decode, degree, passed};
 use degree_rule::rule::reference;
-use degree_rule::tally::{CUT, DEGREE, TALLY_WORDS, enter};
+use degree_rule::tally::Tally;
 use frames::count::{EXPRESSION_LIMIT, NODE_LIMIT};
 use frames::tables::NODE_WORDS;
 use sets::SET_WORDS;
 
-pub fn larger(a: u64, b: u64) -> u64
-    ensures { result ≡ max a b }
-{
-    if a < b {
-        return b;
-    }
-    a
-}
-
 // The largest degree is that returned or that cut.
-fn top(reading: Reading, cut: u64) -> Reading
-    ensures { result ≡ top_in reading cut }
+fn top(largest: Option<u64>, cut: u64) -> Option<u64>
+    ensures { result ≡ top_in largest cut }
 {
-    let Reading::Degree(degree) = reading else {
-        return reading;
-    };
-    Reading::Degree(larger(degree, cut))
+    Some(largest?.max(cut))
 }
 
 // Two visits n times, where the limit allows them.
-fn tick_all(tally: &mut [u64; TALLY_WORDS], n: usize) -> bool
+fn tick_all(tally: &mut Tally, n: usize) -> bool
     requires { Whole tally.old }
     ensures { Ticked tally.old n result tally.new }
 {
     for k in 0..n {
-        if !enter(tally) {
+        if !tally.enter() {
             return false;
         }
-        if !enter(tally) {
+        if !tally.enter() {
             return false;
         }
     }
@@ -52,26 +40,26 @@ fn identity(
     expressions: &[u64; EXPRESSION_LIMIT],
     full: &[u8; NODE_LIMIT],
     set: &mut [u64; SET_WORDS],
-    tally: &mut [u64; TALLY_WORDS],
+    tally: &mut Tally,
     m: usize,
-    prior: Reading,
+    prior: Option<u64>,
     e: usize,
 ) -> Reading
     requires { IdentityAsked nodes.now expressions.now full.now set.old tally.old m prior e }
     ensures { IdentityGiven nodes.now expressions.now full.now set.old tally.old set.new tally.new m prior e result }
 {
-    let Reading::Degree(a) = prior else {
-        return passed(prior, tally);
+    let Some(a) = prior else {
+        return passed(Ok(None), tally);
     };
-    if !enter(tally) {
-        return Reading::OverLimit;
+    if !tally.enter() {
+        return Err(Stop::OverLimit);
     }
-    let d = tally[DEGREE];
-    let read = decode(reference(nodes, expressions, full, set, tally, m, d, e));
-    let Reading::Degree(b) = read else {
-        return read;
+    let d = tally.degree;
+    let code = reference(nodes, expressions, full, set, tally, m, d, e);
+    let Some(b) = degree(code) else {
+        return decode(code);
     };
-    Reading::Degree(larger(a, b))
+    Ok(Some(a.max(b)))
 }
 
 // The identities in order, from no members.
@@ -81,18 +69,18 @@ fn read_identities(
     full: &[u8; NODE_LIMIT],
     identities: &[u64],
     set: &mut [u64; SET_WORDS],
-    tally: &mut [u64; TALLY_WORDS],
+    tally: &mut Tally,
     m: usize,
 ) -> Reading
     requires { IdentitiesAsked nodes.now expressions.now full.now identities.now set.old tally.old m }
     ensures { IdentitiesGiven nodes.now expressions.now full.now identities.now set.old tally.old set.new tally.new m result }
 {
-    let mut reading = Reading::Degree(0);
+    let mut largest = Some(0);
     for k in 0..identities.len() {
         let e = identities[k] as usize;
-        reading = identity(nodes, expressions, full, set, tally, m, reading, e);
+        largest = identity(nodes, expressions, full, set, tally, m, largest, e)?;
     }
-    reading
+    Ok(largest)
 }
 
 // Of the degree limit that stands in the tally, from the empty set; there is an identity.
@@ -102,15 +90,15 @@ pub fn candidate(
     full: &[u8; NODE_LIMIT],
     identities: &[u64],
     set: &mut [u64; SET_WORDS],
-    tally: &mut [u64; TALLY_WORDS],
+    tally: &mut Tally,
     m: usize,
 ) -> Reading
     requires { IdentitiesAsked nodes.now expressions.now full.now identities.now set.old tally.old m }
     ensures { CandidateGiven nodes.now expressions.now full.now identities.now set.old tally.old set.new tally.new m result }
 {
     if !tick_all(tally, identities.len() - 1) {
-        return Reading::OverLimit;
+        return Err(Stop::OverLimit);
     }
-    let reading = read_identities(nodes, expressions, full, identities, set, tally, m);
-    top(reading, tally[CUT])
+    let largest = read_identities(nodes, expressions, full, identities, set, tally, m)?;
+    Ok(top(largest, tally.cut))
 }

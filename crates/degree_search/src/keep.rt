@@ -4,7 +4,6 @@ ghost use Rattle.search_meaning.specs.Search.{q_of};
 ghost use Rattle.sets.specs.Members.{Good};
 ghost use Rattle.degree_search.specs.Choosing.{Keeps};
 
-use degree_rule::reading::Reading;
 use sets::{SET_WORDS, size};
 
 // What a q of -1 counts as.
@@ -54,18 +53,18 @@ fn replaces(degree: u64, size: u64, kept: u64, kept_size: u64) -> bool
 }
 
 pub fn keep(
-    kept: Reading,
+    kept: Option<u64>,
     best: &mut [u64; SET_WORDS],
-    here: Reading,
+    here: Option<u64>,
     set: &[u64; SET_WORDS],
-) -> Reading
+) -> Option<u64>
     requires { Good best.old × Good set.now }
     ensures { Keeps kept best.old here set.now result best.new }
 {
-    let Reading::Degree(degree) = here else {
+    let Some(degree) = here else {
         return kept;
     };
-    let Reading::Degree(before) = kept else {
+    let Some(before) = kept else {
         *best = *set;
         return here;
     };

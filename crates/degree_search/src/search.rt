@@ -2,20 +2,13 @@
 ghost use Rattle.degree_search.specs.Searching.{PoolAsked, PoolGiven, SearchGiven};
 
 use crate::admitted::search_admitted;
-use crate::choose::Searched;
-use frames::count::{Blame, Counts, EXPRESSION_LIMIT, NODE_LIMIT, REQUEST_LIMIT, Reading};
+use crate::choose::Found;
+use frames::count::{Counts, EXPRESSION_LIMIT, NODE_LIMIT, REQUEST_LIMIT};
 use frames::read::fill;
 use frames::tables::NODE_WORDS;
-use pool::admit::{Verdict, admit};
+use kinds::refusal::Refused;
+use pool::admit::admit;
 use sets::SET_WORDS;
-
-// A refusal while reading, or what comes of what was read.
-#[derive(Clone, Copy)]
-pub enum Outcome {
-    Malformed(Blame),
-    Limit(Blame),
-    Ran(Searched),
-}
 
 pub fn search_pool(
     nodes: &[u64; NODE_WORDS],
@@ -26,30 +19,22 @@ pub fn search_pool(
     n_bits_ext: u64,
     limit: u64,
     c: Counts,
-) -> Searched
+) -> Result<Found, Refused>
     requires { PoolAsked c }
     ensures { PoolGiven nodes.now expressions.now identities.now chosen.old chosen.new n_bits n_bits_ext limit c result }
 {
-    let no_table = [0u8; 0];
-    let admission = admit(nodes, expressions, &no_table, c.nodes, c.expressions);
-    let verdict = admission.verdict;
-    match verdict {
-        Verdict::ChildCount(i) => Searched::ChildCount(i),
-        Verdict::NotThere(i) => Searched::NotThere(i),
-        Verdict::LostRoot => Searched::Lost,
-        Verdict::Cycle(i) => Searched::Cycle(i),
-        Verdict::Admitted => search_admitted(
-            nodes,
-            expressions,
-            identities,
-            chosen,
-            n_bits,
-            n_bits_ext,
-            limit,
-            c.nodes,
-            c.expressions,
-        ),
-    }
+    admit(nodes, expressions, &[], c.nodes, c.expressions)?;
+    search_admitted(
+        nodes,
+        expressions,
+        identities,
+        chosen,
+        n_bits,
+        n_bits_ext,
+        limit,
+        c.nodes,
+        c.expressions,
+    )
 }
 
 // Frames, each behind its length (2 bytes, the high one first); requests among them are read and not served. The members come back in `chosen`: eight words of bits
@@ -61,34 +46,28 @@ pub fn search(
     n_bits: u64,
     n_bits_ext: u64,
     limit: u64,
-) -> Outcome
+) -> Result<Found, Refused>
     ensures { SearchGiven frames.now identities.now chosen.old chosen.new n_bits n_bits_ext limit result }
 {
     let mut nodes = [0u64; NODE_WORDS];
     let mut literals = [0u64; NODE_LIMIT];
     let mut expressions = [0u64; EXPRESSION_LIMIT];
     let mut requests = [0u64; REQUEST_LIMIT];
-    match fill(
+    let c = fill(
         frames,
         &mut nodes,
         &mut literals,
         &mut expressions,
         &mut requests,
-    ) {
-        Reading::Malformed(b) => Outcome::Malformed(b),
-        Reading::Full(b) => Outcome::Limit(b),
-        Reading::Read(c) => {
-            let searched = search_pool(
-                &nodes,
-                &expressions,
-                identities,
-                chosen,
-                n_bits,
-                n_bits_ext,
-                limit,
-                c,
-            );
-            Outcome::Ran(searched)
-        }
-    }
+    )?;
+    search_pool(
+        &nodes,
+        &expressions,
+        identities,
+        chosen,
+        n_bits,
+        n_bits_ext,
+        limit,
+        c,
+    )
 }

@@ -1,25 +1,21 @@
--- WHAT THE ANSWERS SAY of a pass and of the entry points: each enum's cases as an answer of meaning, with document 01's number.
+-- WHAT THE ANSWERS SAY of a pass and of the entry points, as answers of meaning, with document 01's number.
 -- Assumes nothing: these are definitions.
-use Rattle.std.specs.Prelude.{ℕ, ◌*◌, ◌≡◌, List}
+use Rattle.std.specs.Prelude.{ℕ, ◌*◌, ◌≡◌, List, Result}
 use Rattle.std.proofs.Math.Option.{Option, none, some}
+use Rattle.kinds.specs.Answers as code
+use Rattle.kinds.specs.declared.refusal.Refusal as codes
 use Rattle.kinds.specs.Write.{write}
 use Rattle.kinds.specs.Steps.{step_size, step_at, step_bytes, steps_of, steps_bytes}
 use Rattle.kinds.specs.declared.step.Step.{Step}
-use Rattle.meaning.specs.Refusals.{Refusal, number, Answer, done, refused, answer_no, ◌then◌}
+use Rattle.meaning.specs.Refusals.{Refusal, Answer, done, refused, answer_no, ◌then◌}
 use Rattle.lists.specs.Records.{record_count}
 use Rattle.step_dimensions.specs.StepDimensions.{Given, step_with, noted}
 use Rattle.dimensions.specs.Dimensions.{Passed, passed, passed_lists, dimensions}
-use Rattle.dimensions.specs.declared.pass.Decided.{Decided}
-use Rattle.dimensions.specs.declared.pass.Decided.TheVariants as decided
-use Rattle.dimensions.specs.declared.set_code_dimensions.Dimensioned.{Dimensioned}
-use Rattle.dimensions.specs.declared.set_code_dimensions.Dimensioned.TheVariants as dimensioned
-use Rattle.step_dimensions.specs.Answers.{why_says}
 
 -- ---- a pass that decides: the temporaries after it, which a refusal leaves open
 
-abbrev pub decided_says : Decided → List ℕ → Answer (List ℕ)
-decided_says decided.Done ts = done ts
-decided_says (decided.Refused w) ts = refused (why_says w) none
+abbrev pub decided_says : Result Unit codes.Refusal → List ℕ → Answer (List ℕ)
+decided_says r ts = code.plain_answer_of r then λ t. done ts
 
 abbrev pub step_to : Given → List ℕ → Step → Answer (List ℕ)
 step_to g ts s = step_with g ts s then λ s'. done (noted ts s')
@@ -53,9 +49,8 @@ abbrev pub refusal_of : {A : Type 0} → Answer A → Option Refusal
 refusal_of (done a) = none
 refusal_of (refused r n) = some r
 
-abbrev pub decided_refusal : Decided → Option Refusal
-decided_refusal decided.Done = none
-decided_refusal (decided.Refused w) = some (why_says w)
+abbrev pub decided_refusal : Result Unit codes.Refusal → Option Refusal
+decided_refusal r = refusal_of (code.plain_answer_of r)
 
 -- where they have their dimensions
 abbrev pub WritesLists : Given → List ℕ → List (List ℕ) → List (List ℕ) → Type 0
@@ -67,13 +62,9 @@ WritesLists g ts ls ls' = (xs : List (List ℕ)) → passed_lists g ts ls ≡ do
 abbrev pub first_dim_x : ℕ
 first_dim_x = 3
 
--- THE NUMBER OF Dimensioned: document 01's, and 0 where it is done
-abbrev pub dimensioned_no : Dimensioned → ℕ
-dimensioned_no dimensioned.Malformed = number Refusal.malformed
-dimensioned_no dimensioned.NotThere = number Refusal.not_there
-dimensioned_no dimensioned.NoRule = number Refusal.no_rule
-dimensioned_no dimensioned.NoDimension = number Refusal.no_dimension
-dimensioned_no dimensioned.Done = 0
+-- THE NUMBER OF set_code_dimensions' ANSWER: document 01's, and 0 where it is done
+abbrev pub dimensioned_no : Result Unit codes.Refusal → ℕ
+dimensioned_no r = answer_no (code.plain_answer_of r)
 
 -- the lists are written where it is done, and else as they were
 abbrev pub lists_after : List (List ℕ) → Answer (List (List ℕ)) → List (List ℕ)
@@ -81,6 +72,6 @@ lists_after ls (done ls') = ls'
 lists_after ls (refused r n) = ls
 
 -- WHAT set_code_dimensions GIVES: its answer and the lent lists after it are those of `dimensions`
-pub record DimensionedIs (g : Given) (ls ls' : List (List ℕ)) (r : Dimensioned) : Type 0 where
+pub record DimensionedIs (g : Given) (ls ls' : List (List ℕ)) (r : Result Unit codes.Refusal) : Type 0 where
   pub says : dimensioned_no r ≡ answer_no (dimensions g ls)
   pub lists : ls' ≡ lists_after ls (dimensions g ls)

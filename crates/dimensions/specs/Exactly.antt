@@ -1,6 +1,6 @@
 -- EACH ANSWER OF set_code_dimensions EXACTLY WHEN, for all lists and all that is given; and only one outcome fits what it promises.
 -- Assumes nothing.
-use Rattle.std.specs.Prelude.{ℕ, ◌≡◌, refl, Bool, true, false, List, [], ◌∷◌, ◌↔◌}
+use Rattle.std.specs.Prelude.{ℕ, ◌≡◌, refl, Bool, true, false, List, [], ◌∷◌, ◌↔◌, Result}
 use Rattle.std.proofs.Common.{sym, ◌∙◌, ap, arith}
 use Rattle.std.proofs.Math.Option.{none, some}
 use Rattle.kinds.specs.declared.reference.Reference.{Reference}
@@ -8,12 +8,12 @@ use Rattle.kinds.specs.declared.step.Step.{Step}
 use Rattle.meaning.specs.Refusals.{Refusal, number, Answer, done, refused, answer_no}
 use Rattle.step_dimensions.specs.StepDimensions.{Given, unwritten, noted}
 use Rattle.dimensions.specs.Dimensions.{passed, passed_lists, good_lists, dimensions}
-use Rattle.dimensions.specs.Answers.{refusal_of, dimensioned_no, DimensionedIs}
+use Rattle.dimensions.specs.Answers.{refusal_of, DimensionedIs}
 use Rattle.dimensions.specs.Conditions as when
 use Rattle.dimensions.specs.Conditions.{SourceRefused, SourcesRefused, StepRefused, StepsRefused, all_records}
 use Rattle.dimensions.specs.Laws.Refused.{Way, fine, stopped, steps-way, steps-refuse, lists_as_one}
-use Rattle.dimensions.specs.declared.set_code_dimensions.Dimensioned.{Dimensioned}
-use Rattle.dimensions.specs.declared.set_code_dimensions.Dimensioned.TheVariants as answer
+use Rattle.kinds.specs.AnswerLaws.{plain_same}
+use Rattle.kinds.specs.declared.refusal.Refusal as codes
 
 -- the refusals that a step can meet
 data Few : Refusal → Type 0 where
@@ -141,34 +141,7 @@ module _ (g : Given) (ls : List (List ℕ)) where
 
 -- ---- only one outcome fits
 
-number_same : (r q : Dimensioned) → dimensioned_no r ≡ dimensioned_no q → r ≡ q
-number_same answer.Malformed answer.Malformed e = refl
-number_same answer.Malformed answer.NotThere e = absurd (omega (arith, e))
-number_same answer.Malformed answer.NoRule e = absurd (omega (arith, e))
-number_same answer.Malformed answer.NoDimension e = absurd (omega (arith, e))
-number_same answer.Malformed answer.Done e = absurd (omega (arith, e))
-number_same answer.NotThere answer.Malformed e = absurd (omega (arith, e))
-number_same answer.NotThere answer.NotThere e = refl
-number_same answer.NotThere answer.NoRule e = absurd (omega (arith, e))
-number_same answer.NotThere answer.NoDimension e = absurd (omega (arith, e))
-number_same answer.NotThere answer.Done e = absurd (omega (arith, e))
-number_same answer.NoRule answer.Malformed e = absurd (omega (arith, e))
-number_same answer.NoRule answer.NotThere e = absurd (omega (arith, e))
-number_same answer.NoRule answer.NoRule e = refl
-number_same answer.NoRule answer.NoDimension e = absurd (omega (arith, e))
-number_same answer.NoRule answer.Done e = absurd (omega (arith, e))
-number_same answer.NoDimension answer.Malformed e = absurd (omega (arith, e))
-number_same answer.NoDimension answer.NotThere e = absurd (omega (arith, e))
-number_same answer.NoDimension answer.NoRule e = absurd (omega (arith, e))
-number_same answer.NoDimension answer.NoDimension e = refl
-number_same answer.NoDimension answer.Done e = absurd (omega (arith, e))
-number_same answer.Done answer.Malformed e = absurd (omega (arith, e))
-number_same answer.Done answer.NotThere e = absurd (omega (arith, e))
-number_same answer.Done answer.NoRule e = absurd (omega (arith, e))
-number_same answer.Done answer.NoDimension e = absurd (omega (arith, e))
-number_same answer.Done answer.Done e = refl
-
 pub one_dimensioning :
-    (g : Given) (ls : List (List ℕ)) {ls₁ ls₂ : List (List ℕ)} {r₁ r₂ : Dimensioned}
+    (g : Given) (ls : List (List ℕ)) {ls₁ ls₂ : List (List ℕ)} {r₁ r₂ : Result Unit codes.Refusal}
     → DimensionedIs g ls ls₁ r₁ → DimensionedIs g ls ls₂ r₂ → (r₁ ≡ r₂) × (ls₁ ≡ ls₂)
-one_dimensioning g ls {ls₁} {ls₂} {r₁} {r₂} a b = (number_same r₁ r₂ (a.says ∙ sym b.says), a.lists ∙ sym b.lists)
+one_dimensioning g ls {ls₁} {ls₂} {r₁} {r₂} a b = (plain_same r₁ r₂ (a.says ∙ sym b.says), a.lists ∙ sym b.lists)

@@ -1,10 +1,12 @@
 -- THE EVALUATOR FROM FRAMES: the answer to a pool, a list, a modulus and the given values, with room for the cells' values; and what stands in that room after
 -- it. The order of refusals: 1 and 9 while reading, 1 of the list, the modulus and the values, 2, 3 and 4 of the pool, 10, 9.
 -- Assumes nothing: these are definitions.
-use Rattle.std.specs.Prelude.{ℕ, ◌<◌, ◌≤◌, ◌≡◌, true, false, List, [], length}
-use Rattle.std.proofs.Math.Option.{Option, none, some}
+use Rattle.std.specs.Prelude.{Result, ℕ, ◌<◌, ◌≤◌, ◌≡◌, true, false, List, [], length}
+use Rattle.std.proofs.Math.Option.{Option, none}
+use Rattle.kinds.specs.Answers.{answer_of}
+use Rattle.kinds.specs.declared.refusal.Refused.{Refused}
 use Rattle.meaning.specs.Refusals.{Refusal, Answer, done, refused, ◌then◌}
-use Rattle.frames.specs.Order.{Input, blame_answer, node_limit, expression_limit}
+use Rattle.frames.specs.Order.{Input, node_limit, expression_limit}
 use Rattle.frames.specs.Reading.{reading}
 use Rattle.frames.specs.declared.count.Counts.{Counts}
 use Rattle.pool.specs.Pool.{Pool}
@@ -16,8 +18,6 @@ use Rattle.requests.specs.Whole.{pool_in}
 use Rattle.evaluator_cells.specs.Given.{lent}
 use Rattle.evaluator_cells.specs.Literals.{brought_at}
 use Rattle.evaluator_run.specs.Evaluation.{Valued, well_formed, ruling, out_after}
-use Rattle.evaluator.specs.declared.evaluate.Evaluation.{Evaluation}
-use Rattle.evaluator.specs.declared.evaluate.Evaluation.TheVariants as answer
 
 -- ── the answer ───────────────────────────────────────────────────────────────
 module _ (list : List ℕ) (m : ℕ) (ws : List ℕ) (room : ℕ) where
@@ -32,18 +32,13 @@ module _ (list : List ℕ) (m : ℕ) (ws : List ℕ) (room : ℕ) where
     pub judged : (i : Input) → x ≡ done i → well_formed ws m list ≡ true → Judged (pool_of i) a
 
 -- ── what the code answers ────────────────────────────────────────────────────
--- WHAT Evaluation SAYS: how many cells are written, or the refusal
+-- how many cells are written, or the refusal
+abbrev pub Evaluation : Type 0
+Evaluation = Result ℕ Refused
+
+-- WHAT Evaluation SAYS
 abbrev pub answer_says : Evaluation → Answer ℕ
-answer_says (answer.Malformed b) = refused Refusal.malformed (blame_answer b)
-answer_says (answer.Limit b) = refused Refusal.full (blame_answer b)
-answer_says answer.IllFormed = refused Refusal.malformed none
-answer_says (answer.ChildCount i) = refused Refusal.child_count (some i)
-answer_says (answer.NotThere i) = refused Refusal.not_there (some i)
-answer_says answer.Lost = refused Refusal.not_there none
-answer_says (answer.Cycle i) = refused Refusal.cycle (some i)
-answer_says answer.NoRule = refused Refusal.no_rule none
-answer_says answer.Full = refused Refusal.full none
-answer_says (answer.Cells n) = done n
+answer_says = answer_of
 
 -- an answer told, and the lent bytes after it: the cells' values at the front, or what they were
 pub record Tells (a : Answer (List Valued)) (out out' : List ℕ) (r : Evaluation) : Type 0 where

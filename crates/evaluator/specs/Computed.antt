@@ -37,9 +37,8 @@ use Rattle.evaluator_cells.specs.Given.{lent, given, good_values}
 use Rattle.evaluator_cells.specs.Literals.{brought_at}
 use Rattle.lists.specs.Records.{good_list}
 use Rattle.evaluator_run.specs.Evaluation.{written, Valued, valued_by, values_bytes, well_formed, ruling, out_after}
-use Rattle.evaluator.specs.Answer.{answer_says, EvaluationIs}
+use Rattle.evaluator.specs.Answer.{Evaluation, answer_says, EvaluationIs}
 use Rattle.evaluator.specs.Exactly.{fits}
-use Rattle.evaluator.specs.declared.evaluate.Evaluation.{Evaluation}
 use Rattle.evaluator.specs.Laws.ReadBack.{list_back, list-good}
 use Rattle.evaluator.specs.Laws.Rows.{first_in, first-few}
 use Rattle.evaluator.specs.Laws.Written.{run_covers, valued-member, written-few}

@@ -38,9 +38,8 @@ use Rattle.evaluator_cells.specs.Keyed.{valued_size}
 use Rattle.evaluator_cells.specs.Given.{lent, given, good_values}
 use Rattle.evaluator_cells.specs.Literals.{brought_at}
 use Rattle.evaluator_run.specs.Evaluation.{written, Valued, valued_by, values_bytes, ruling}
-use Rattle.evaluator.specs.Answer.{answer_says, EvaluationIs}
+use Rattle.evaluator.specs.Answer.{Evaluation, answer_says, EvaluationIs}
 use Rattle.evaluator.specs.Exactly.{fits}
-use Rattle.evaluator.specs.declared.evaluate.Evaluation.{Evaluation}
 use Rattle.evaluator.specs.Computed.{says, well_formed_lem, few-nodes, rows_few, computed-answers}
 use Rattle.evaluator.specs.Laws.ReadBack.{list_back}
 use Rattle.evaluator.specs.Laws.Rows.{first-few}

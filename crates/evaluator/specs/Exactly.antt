@@ -28,9 +28,8 @@ use Rattle.lists.specs.Records.{records_in}
 use Rattle.lists.specs.Decoding.{steps_from}
 use Rattle.evaluator_run.specs.Evaluation.{written, Valued, valued_by, computed, fitting, ruled, well_formed, ruling, out_after}
 use Rattle.evaluator_run.specs.Laws.Computes.{valued-length}
-use Rattle.evaluator.specs.Answer.{Judged, Evaluates, answer_says, Tells, EvaluationIs}
+use Rattle.evaluator.specs.Answer.{Evaluation, Judged, Evaluates, answer_says, Tells, EvaluationIs}
 use Rattle.evaluator.specs.Laws.Written.{Has, run-has}
-use Rattle.evaluator.specs.declared.evaluate.Evaluation.{Evaluation}
 
 -- ── of what is well formed ───────────────────────────────────────────────────
 module _ (L : ℕ → Lit) (g : Lent) (m : ℕ) (list : List ℕ) (room : ℕ) where

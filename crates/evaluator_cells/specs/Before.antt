@@ -1,18 +1,17 @@
 -- What a cell has before a step writes it, by the byte of its kind; and what the code asks of the words and numbers that it reads with.
 -- Assumes nothing: these are definitions.
 use Rattle.std.specs.Prelude.{ℕ, ◌<◌, ◌≡◌, true, cond, List, eqb}
+use Rattle.std.specs.Prelude as code
 use Rattle.std.proofs.Math.Option.{Option, none, some}
 use Rattle.kinds.specs.KindBytes as kind
 use Rattle.evaluator_cells.specs.Numbers.{Modulus}
 use Rattle.evaluator_cells.specs.Given.{Lent, section_count, good_values, word_at, row_at}
 use Rattle.evaluator_cells.specs.Cells.{id_limit}
-use Rattle.evaluator_cells.specs.declared.given.Value.{Value}
-use Rattle.evaluator_cells.specs.declared.given.Value.TheVariants as value
 
--- WHAT Value SAYS
-abbrev pub known : Value → Option ℕ
-known (value.Known v) = some v
-known value.Unknown = none
+-- WHAT THE CODE'S Option SAYS
+abbrev pub known : code.Option ℕ → Option ℕ
+known (code.Some v) = some v
+known code.None = none
 
 -- exp, tmp, f, tmp_exp, Zi, the trees and Z are never given
 unfoldable pub before_in : ℕ → Lent → ℕ → ℕ → ℕ → Option ℕ

@@ -1,10 +1,9 @@
 -- Cells as numbers, and the table of those that a list has written: keys in the order of first writing, found by chains of cells with one id.
 -- Assumes nothing: these are definitions.
-use Rattle.std.specs.Prelude.{ℕ, zero, suc, ◌+◌, ◌*◌, ◌-◌, ◌%◌, ◌<◌, ◌≤◌, ◌≡◌, Bool, cond, ◌||◌, List, length, get_or, set, eqb}
+use Rattle.std.specs.Prelude.{ℕ, zero, suc, ◌+◌, ◌*◌, ◌-◌, ◌%◌, ◌<◌, ◌≤◌, ◌≡◌, Bool, cond, ◌||◌, List, length, get_or, set, eqb, Option, Some, None}
 use Rattle.kinds.specs.KindBytes as kind
 use Rattle.kinds.specs.declared.reference.Reference.{Reference}
-use Rattle.evaluator_cells.specs.declared.cells.Found.{Found}
-use Rattle.evaluator_cells.specs.declared.cells.Found.TheVariants as found
+use Rattle.evaluator_cells.specs.declared.cells.Cells.{Cells}
 
 -- a list may write so many cells
 abbrev pub cell_limit : ℕ
@@ -32,14 +31,14 @@ writable_no k =
 
 -- ---- the number of a key
 
-abbrev pub or_else : Found → Found → Found
-or_else (found.At k) other = found.At k
-or_else found.Nothing other = other
+abbrev pub or_else : Option ℕ → Option ℕ → Option ℕ
+or_else (Some k) other = Some k
+or_else None other = other
 
 -- among the first n
-unfoldable pub index_of : List ℕ → ℕ → ℕ → Found
-index_of ks zero key = found.Nothing
-index_of ks (suc n) key = or_else (index_of ks n key) (cond (eqb (get_or ks n 0) key) (found.At n) found.Nothing)
+unfoldable pub index_of : List ℕ → ℕ → ℕ → Option ℕ
+index_of ks zero key = None
+index_of ks (suc n) key = or_else (index_of ks n key) (cond (eqb (get_or ks n 0) key) (Some n) None)
 
 -- ---- chains
 
@@ -60,9 +59,10 @@ pub record Chained (hs ns ks : List ℕ) (n : ℕ) : Type 0 where
 abbrev pub FindAsked : List ℕ → List ℕ → List ℕ → Type 0
 FindAsked hs ns ks = (n : ℕ) × Chained hs ns ks n
 
--- one cell more, after n
-pub record Adds (hs ns ks vs : List ℕ) (n key value : ℕ) (hs' ns' ks' vs' : List ℕ) : Type 0 where
-  pub heads : hs' ≡ set hs (id_in key) (n + 1)
-  pub nexts : ns' ≡ set ns n (get_or hs (id_in key) 0)
-  pub keys : ks' ≡ set ks n key
-  pub values : vs' ≡ set vs n value
+-- one cell more, after the others
+pub record Adds (t : Cells) (key value : ℕ) (t' : Cells) : Type 0 where
+  pub heads : t'.heads ≡ set t.heads (id_in key) (t.count + 1)
+  pub nexts : t'.nexts ≡ set t.nexts t.count (get_or t.heads (id_in key) 0)
+  pub keys : t'.keys ≡ set t.keys t.count key
+  pub values : t'.values ≡ set t.values t.count value
+  pub count : t'.count ≡ t.count + 1

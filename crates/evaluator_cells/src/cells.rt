@@ -17,9 +17,12 @@ pub const ID_KEYS: u32 = ID_LIMIT as u32;
 pub const PRIMES: u32 = 2;
 
 #[derive(Drop)]
-pub enum Found {
-    At(usize),
-    Nothing,
+pub struct Cells {
+    pub heads: [u16; ID_LIMIT],
+    pub nexts: [u16; CELL_LIMIT],
+    pub keys: [u32; CELL_LIMIT],
+    pub values: [u64; CELL_LIMIT],
+    pub count: usize,
 }
 
 fn key(kind: u8, prime: u8, id: u16) -> u32
@@ -55,43 +58,34 @@ fn id_of(key: u32) -> usize
     (key % ID_KEYS) as usize
 }
 
-pub fn find(
-    heads: &[u16; ID_LIMIT],
-    nexts: &[u16; CELL_LIMIT],
-    keys: &[u32; CELL_LIMIT],
-    key: u32,
-) -> Found
-    requires { FindAsked heads.now nexts.now keys.now }
-    ensures { (n : ℕ) → Chained heads.now nexts.now keys.now n → result ≡ index_of keys.now n key }
-{
-    let id = id_of(key);
-    let mut at = heads[id] as usize;
-    while 0 < at {
-        let cell = at - 1;
-        if keys[cell] == key {
-            return Found::At(cell);
+impl Cells {
+    pub fn find(&self, key: u32) -> Option<usize>
+        requires { FindAsked self.now.heads self.now.nexts self.now.keys }
+        ensures { (n : ℕ) → Chained self.now.heads self.now.nexts self.now.keys n → result ≡ index_of self.now.keys n key }
+    {
+        let id = id_of(key);
+        let mut at = self.heads[id] as usize;
+        while 0 < at {
+            let cell = at - 1;
+            if self.keys[cell] == key {
+                return Some(cell);
+            }
+            at = self.nexts[cell] as usize;
         }
-        at = nexts[cell] as usize;
+        None
     }
-    Found::Nothing
-}
 
-// A cell that is not there yet, after n others.
-pub fn add(
-    heads: &mut [u16; ID_LIMIT],
-    nexts: &mut [u16; CELL_LIMIT],
-    keys: &mut [u32; CELL_LIMIT],
-    values: &mut [u64; CELL_LIMIT],
-    n: usize,
-    key: u32,
-    value: u64,
-)
-    requires { n < cell_limit }
-    ensures { Adds heads.old nexts.old keys.old values.old n key value heads.new nexts.new keys.new values.new }
-{
-    let id = id_of(key);
-    nexts[n] = heads[id];
-    heads[id] = (n + 1) as u16;
-    keys[n] = key;
-    values[n] = value;
+    // A cell that is not there yet, after the others.
+    pub fn add(&mut self, key: u32, value: u64)
+        requires { self.old.count < cell_limit }
+        ensures { Adds self.old key value self.new }
+    {
+        let n = self.count;
+        let id = id_of(key);
+        self.nexts[n] = self.heads[id];
+        self.heads[id] = (n + 1) as u16;
+        self.keys[n] = key;
+        self.values[n] = value;
+        self.count = n + 1;
+    }
 }

@@ -6,16 +6,9 @@ ghost use Rattle.evaluator_cells.specs.Before.{StartAsks, WordAsks, RowAsks, Giv
 
 use kinds::kind::Kind;
 
-// A value below m, or none: a cell neither written nor given.
-#[derive(Drop)]
-pub enum Value {
-    Known(u64),
-    Unknown,
-}
-
 pub const ROWS: usize = 2;
 
-// The sections, in their order.
+// The sections, in their order: numbers, since they are the places of the header's words.
 const CM: usize = 0;
 
 const CONST: usize = 1;
@@ -63,28 +56,28 @@ fn section_start(values: &[u64], k: usize) -> usize
     at
 }
 
-fn word_at(values: &[u64], k: usize, i: usize, m: u64) -> Value
+fn word_at(values: &[u64], k: usize, i: usize, m: u64) -> Option<u64>
     requires { WordAsks values.now k m }
     ensures { known result ≡ word_at m (section values.now k) i }
 {
     if i < values[k] as usize {
-        return Value::Known(values[section_start(values, k) + i] % m);
+        return Some(values[section_start(values, k) + i] % m);
     }
-    Value::Unknown
+    None
 }
 
-fn row_at(values: &[u64], k: usize, id: usize, row: usize, m: u64) -> Value
+fn row_at(values: &[u64], k: usize, id: usize, row: usize, m: u64) -> Option<u64>
     requires { RowAsks values.now k id row m }
     ensures { known result ≡ row_at m (section values.now k) id row }
 {
     if row < ROWS {
         return word_at(values, k, ROWS * id + row, m);
     }
-    Value::Unknown
+    None
 }
 
-// The value that a cell has before a step writes it. exp, tmp, f, tmpExp, Zi, the trees and Z are never given.
-pub fn before(values: &[u64], m: u64, kind: u8, id: usize, row: usize) -> Value
+// The value below m that a cell has before a step writes it. exp, tmp, f, tmpExp, Zi, the trees and Z are never given.
+pub fn before(values: &[u64], m: u64, kind: u8, id: usize, row: usize) -> Option<u64>
     requires { GivenAsks values.now id row m }
     ensures { known result ≡ before_in m (lent values.now) kind id row }
 {
@@ -98,6 +91,6 @@ pub fn before(values: &[u64], m: u64, kind: u8, id: usize, row: usize) -> Value
         Kind::X_DIV_X_SUB_XI => word_at(values, XS, 0, m),
         Kind::X_DIV_X_SUB_WXI => word_at(values, XS, 1, m),
         Kind::X => word_at(values, XS, 2, m),
-        _ => Value::Unknown,
+        _ => None,
     }
 }

@@ -4,7 +4,7 @@ ghost use Rattle.kinds.specs.Write.{write};
 ghost use Rattle.output.specs.Output.{u32_bytes, u64_bytes};
 ghost use Rattle.evaluator_cells.specs.Keyed.{keyed_bytes, keyed_to, KeyedAsks, KeyedAllAsk};
 
-use crate::cells::{CELL_LIMIT, ID_KEYS, PRIMES};
+use crate::cells::{Cells, ID_KEYS, PRIMES};
 use kinds::big_endian::{put_two, put_u16};
 
 pub const VALUED_SIZE: usize = 12;
@@ -44,12 +44,12 @@ fn put_keyed(out: &mut [u8], at: usize, key: u32, value: u64)
     put_u64(out, at + VALUE, value);
 }
 
-// The first n cells, at the front.
-pub fn put_all(keys: &[u32; CELL_LIMIT], values: &[u64; CELL_LIMIT], n: usize, out: &mut [u8])
-    requires { KeyedAllAsk keys.now n (length out.old) }
-    ensures { out.new ≡ write out.old 0 (keyed_to keys.now values.now n) }
+// The cells, at the front.
+pub fn put_all(cells: &Cells, out: &mut [u8])
+    requires { KeyedAllAsk cells.now.keys cells.now.count (length out.old) }
+    ensures { out.new ≡ write out.old 0 (keyed_to cells.now.keys cells.now.values cells.now.count) }
 {
-    for j in 0..n {
-        put_keyed(out, VALUED_SIZE * j, keys[j], values[j]);
+    for j in 0..cells.count {
+        put_keyed(out, VALUED_SIZE * j, cells.keys[j], cells.values[j]);
     }
 }

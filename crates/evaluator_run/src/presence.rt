@@ -9,7 +9,7 @@ ghost use Rattle.evaluator_run.specs.Presence.{is_known, class_no, SlotIs, slot_
 
 use evaluator_cells::cells;
 use evaluator_cells::cells::{ID_LIMIT, is_writable};
-use evaluator_cells::given::{Value, before};
+use evaluator_cells::given::before;
 use evaluator_step::step::read_count;
 use kinds::kind::Kind;
 use kinds::reference::Reference;
@@ -57,13 +57,7 @@ fn has_value(seen: &[u8; SLOTS], values: &[u64], m: u64, r: Reference) -> bool
         return true;
     }
     let at = slot(r);
-    if seen[at] == MARKED {
-        return true;
-    }
-    match before(values, m, r.kind, r.id as usize, r.prime as usize) {
-        Value::Known(_) => true,
-        Value::Unknown => false,
-    }
+    seen[at] == MARKED || before(values, m, r.kind, r.id as usize, r.prime as usize).is_some()
 }
 
 // Has a step a value: a rule, and a value for each source that it reads?

@@ -1,6 +1,7 @@
 -- THE RUN OVER TABLES: what the code does with each record, as numbers. The evaluator's Simulation.antt says that it is meaning's running.
 -- Assumes nothing: these are definitions.
 use Rattle.std.specs.Prelude.{ℕ, ◌+◌, ◌<◌, ◌≡◌, cond, List, [], ◌∷◌, length, get_or, set, eqb, leb, ltb}
+use Rattle.std.specs.Prelude as code
 use Rattle.std.proofs.Math.Option.{Option, none, some}
 use Rattle.kinds.specs.KindBytes as kind
 use Rattle.kinds.specs.StepOps.{sources_needed}
@@ -15,20 +16,14 @@ use Rattle.evaluator_cells.specs.Before.{known, before_in, Lends}
 use Rattle.lists.specs.Records.{counted_in}
 use Rattle.lists.specs.Decoding.{op_from}
 use Rattle.evaluator_cells.specs.Cells.{cell_limit, place_no, id_in, writable_no, index_of, Chained}
-use Rattle.evaluator_cells.specs.declared.cells.Found.{Found}
-use Rattle.evaluator_cells.specs.declared.cells.Found.TheVariants as found
-use Rattle.evaluator_cells.specs.declared.given.Value.{Value}
-use Rattle.evaluator_step.specs.declared.step.Ran.{Ran}
-use Rattle.evaluator_step.specs.declared.step.Ran.TheVariants as ran
+use Rattle.evaluator_cells.specs.declared.cells.Cells.{Cells}
+use Rattle.evaluator_step.specs.declared.step.Stop.{Stop}
+use Rattle.evaluator_step.specs.declared.step.Stop.TheVariants as stop
 
 -- ---- the table
 
-pub record Table : Type 0 where
-  pub heads : List ℕ
-  pub nexts : List ℕ
-  pub keys : List ℕ
-  pub values : List ℕ
-  pub count : ℕ
+abbrev pub Table : Type 0
+Table = Cells
 
 abbrev pub table : List ℕ → List ℕ → List ℕ → List ℕ → ℕ → Table
 table hs ns ks vs n = record { heads = hs; nexts = ns; keys = ks; values = vs; count = n }
@@ -39,9 +34,9 @@ pub record Kept (m : ℕ) (t : Table) : Type 0 where
   pub size : length t.values ≡ cell_limit
   pub reduced : (j : ℕ) → j < t.count → get_or t.values j 0 < m
 
-abbrev pub value_at : List ℕ → Found → Option ℕ
-value_at vs (found.At i) = some (get_or vs i 0)
-value_at vs found.Nothing = none
+abbrev pub value_at : List ℕ → code.Option ℕ → Option ℕ
+value_at vs (code.Some i) = some (get_or vs i 0)
+value_at vs code.None = none
 
 unfoldable pub lookup : Table → ℕ → Option ℕ
 lookup t key = value_at t.values (index_of t.keys t.count key)
@@ -54,9 +49,9 @@ pub data Outcome : Type 0 where
   over : Outcome
 
 -- a value written at a key: over an older one, or as a new cell where there is room
-abbrev pub stored_at : Table → ℕ → ℕ → Found → Outcome
-stored_at t key v (found.At i) = next (table t.heads t.nexts t.keys (set t.values i v) t.count)
-stored_at t key v found.Nothing =
+abbrev pub stored_at : Table → ℕ → ℕ → code.Option ℕ → Outcome
+stored_at t key v (code.Some i) = next (table t.heads t.nexts t.keys (set t.values i v) t.count)
+stored_at t key v code.None =
     cond (ltb t.count cell_limit)
     (next
     (table (set t.heads (id_in key) (t.count + 1)) (set t.nexts t.count (get_or t.heads (id_in key) 0)) (set t.keys t.count key)
@@ -105,27 +100,24 @@ module _ (ns : List ℕ) (m : ℕ) (g : Lent) where
   run_to t [] = next t
   run_to t (x ∷ xs) = after (step_to t x) (λ u. run_to u xs)
 
--- ---- what the code is asked and gives, for the number of cells that stand in the table
+-- ---- what the code is asked and gives
 
-abbrev pub KeptTable : List ℕ → List ℕ → ℕ → List ℕ → List ℕ → List ℕ → List ℕ → Type 0
-KeptTable ns ws m hs xs ks vs = Lends ws m × Reduced ns m × ((n : ℕ) × Kept m (table hs xs ks vs n))
+abbrev pub StepAsks : List ℕ → List ℕ → ℕ → Table → Type 0
+StepAsks ns ws m t = Lends ws m × Reduced ns m × Kept m t
 
-abbrev pub StepAsks : List ℕ → List ℕ → ℕ → List ℕ → List ℕ → List ℕ → List ℕ → ℕ → Type 0
-StepAsks ns ws m hs xs ks vs n = Lends ws m × Reduced ns m × Kept m (table hs xs ks vs n)
+pub record StoreAsks (t : Table) : Type 0 where
+  pub chained : Chained t.heads t.nexts t.keys t.count
+  pub size : length t.values ≡ cell_limit
 
-pub record StoreAsks (hs ns ks vs : List ℕ) (n : ℕ) : Type 0 where
-  pub chained : Chained hs ns ks n
-  pub size : length vs ≡ cell_limit
+module _ (ns : List ℕ) (g : Lent) (m : ℕ) (t : Table) where
+  abbrev pub Reads : Reference → code.Option ℕ → Type 0
+  Reads r v = known v ≡ read_in ns m g t r
 
-module _ (ns : List ℕ) (g : Lent) (m : ℕ) (hs xs ks vs : List ℕ) where
-  abbrev pub Reads : Reference → Value → Type 0
-  Reads r v = (n : ℕ) → Kept m (table hs xs ks vs n) → known v ≡ read_in ns m g (table hs xs ks vs n) r
+  abbrev pub Values : bytes.Step → code.Option ℕ → Type 0
+  Values x v = known v ≡ value_in ns m g t x
 
-  abbrev pub Values : bytes.Step → Value → Type 0
-  Values x v = (n : ℕ) → Kept m (table hs xs ks vs n) → known v ≡ value_in ns m g (table hs xs ks vs n) x
-
--- WHAT Ran SAYS, with the arrays after it
-abbrev pub ran_to : Ran → List ℕ → List ℕ → List ℕ → List ℕ → Outcome
-ran_to (ran.Cells n) hs ns ks vs = next (table hs ns ks vs n)
-ran_to ran.NoRule hs ns ks vs = no_rule
-ran_to ran.Over hs ns ks vs = over
+-- WHAT THE CODE'S Result SAYS, with the table after it
+abbrev pub ran_to : {A : Type 0} → code.Result A Stop → Table → Outcome
+ran_to (code.Ok a) t = next t
+ran_to (code.Err stop.NoRule) t = no_rule
+ran_to (code.Err stop.Over) t = over

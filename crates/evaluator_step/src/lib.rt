@@ -1,2 +1,4 @@
 // One step of the evaluator: its sources read, its value computed and stored.
+#![tactic(auto)]
+
 pub mod step;

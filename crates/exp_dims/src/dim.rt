@@ -3,11 +3,10 @@ ghost use Rattle.std.specs.Prelude.{◌≡◌};
 ghost use Rattle.pool.specs.Entries.{entries_in};
 ghost use Rattle.exp_dims.specs.Known.{Kept, TreeAsked, TreeGiven, ExpAsked, ExpGiven};
 
-use crate::leaf::{BASE, larger, leaf_dim};
+use crate::leaf::{BASE, leaf_dim};
 use frames::count::EXPRESSION_LIMIT;
 use frames::tables::{NODE_WORDS, count_at};
 use pool::cycle::lead;
-use pool::shape::Found;
 use pool::words::{child, root};
 
 // An expression whose dimension is not known. One that is as large as that is computed each time.
@@ -37,7 +36,7 @@ fn tree_dim(
 {
     let count = count_at(nodes, i);
     if count == 0 {
-        let Found::At(e) = lead(nodes, table, i) else {
+        let Some(e) = lead(nodes, table, i) else {
             return leaf_dim(nodes, dims, i);
         };
         let seen = known[e];
@@ -51,19 +50,19 @@ fn tree_dim(
     }
     let c0 = child(nodes, i, 0);
     let a = tree_dim(nodes, expressions, table, dims, known, levels, c0);
-    let first = larger(BASE, a);
+    let first = BASE.max(a);
     if count == 1 {
         return first;
     }
     let c1 = child(nodes, i, 1);
     let b = tree_dim(nodes, expressions, table, dims, known, levels, c1);
-    let second = larger(first, b);
+    let second = first.max(b);
     if count == 2 {
         return second;
     }
     let c2 = child(nodes, i, 2);
     let c = tree_dim(nodes, expressions, table, dims, known, levels, c2);
-    larger(second, c)
+    second.max(c)
 }
 
 // What is known stays true as long as the columns' dimensions stay what they are.

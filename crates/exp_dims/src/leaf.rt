@@ -1,5 +1,5 @@
 // The dimension of a leaf that leads to no expression.
-ghost use Rattle.std.specs.Prelude.{◌≡◌, ◌<◌, max, get_or};
+ghost use Rattle.std.specs.Prelude.{◌≡◌, ◌<◌, get_or};
 ghost use Rattle.frames.specs.Order.{node_limit};
 ghost use Rattle.exp_dims.specs.Known.{leaf_dim_in};
 
@@ -14,15 +14,6 @@ pub const EXTENSION: u16 = 3;
 
 // A dimension that none is known for.
 pub const NONE: u16 = 0;
-
-pub fn larger(a: u16, b: u16) -> u16
-    ensures { result ≡ max a b }
-{
-    if a < b {
-        return b;
-    }
-    a
-}
 
 fn cm_dim(dims: &[u16], cm: usize) -> u16
     ensures { result ≡ get_or dims.now cm 0 }

@@ -3,7 +3,6 @@
 use Prim.Native.Nat.{ℕ, suc, ◌+◌, ◌≤◌, ◌<◌}
 use mathlib.Core.Path.{◌≡◌, refl, sym, ◌∙◌, ap}
 use mathlib.Core.Bool.{Bool, true, false}
-use mathlib.Core.Option.{Option}
 use mathlib.Core.List.{List, [], ◌∷◌, ◌++◌, append_assoc, append-nil}
 use native.Mathlib.Omega.{arith}
 use native.Mathlib.Numerals.{add-one}
@@ -11,11 +10,12 @@ use lib.ListN.{length, get_or, take, drop, set, take-append-drop}
 use lib.Seq.{take-suc, take_all}
 use lib.Dec.{eqb, ltb}
 use borrow.Author.Tests.{lt-ltb, le-ltb, ltb-true, ltb-false, ne_eqb}
-use Rattle.meaning.specs.Refusals.{Refusal, Answer, done, refused, ◌then◌}
+use Rattle.meaning.specs.Refusals.{Answer, done, refused, ◌then◌}
 use Rattle.frames.specs.declared.count.Counts.{Counts}
-use Rattle.frames.specs.declared.count.Reading.{Reading}
-use Rattle.frames.specs.declared.count.Reading.TheVariants as reading
-use Rattle.frames.specs.Order.{Input, counts_answer}
+use Rattle.std.specs.Prelude.{Result, Ok, Err}
+use Rattle.kinds.specs.Answers.{refusal_of, blame_of}
+use Rattle.kinds.specs.declared.refusal.Refused.{Refused}
+use Rattle.frames.specs.Order.{Input}
 use Rattle.frames.specs.Tables.{Tables, Sized, Takes, input_in}
 use Rattle.frames.specs.Reading.{read_from, held}
 use Rattle.frames.specs.Text.{line_feed, lines_of, line_frame, text_frames, reading_text, FillsText}
@@ -25,8 +25,6 @@ use Rattle.frames.proofs.Texts.{bytes-line}
 use Rattle.feed.specs.Feeding.{line_room, last_line, Kept, Fed, Lost, Stands, FedGiven, Keeps}
 use Rattle.feed.specs.Laws.{last-fed, last_more, last-plain, frame-kept, kept_more, kept_full, kept-none}
 use Rattle.feed.specs.declared.feed.Place.{Place}
-use Rattle.feed.specs.declared.feed.Feeding.{Feeding}
-use Rattle.feed.specs.declared.feed.Feeding.TheVariants as was
 
 -- ---- a byte kept
 
@@ -54,7 +52,7 @@ module _ (b : ℕ) (p : Place) (line : List ℕ) where
 
 -- ---- a line ended
 
-module _ (t line : List ℕ) (p : Place) (u : Tables) (w : Fed t line p u) (r : Reading) (u' : Tables) (k : Takes u p.counts (line_frame (take p.held line)) r u') where
+module _ (t line : List ℕ) (p : Place) (u : Tables) (w : Fed t line p u) (r : Result Counts Refused) (u' : Tables) (k : Takes u p.counts (line_frame (take p.held line)) r u') where
   its : Takes u p.counts (line_frame (last_line t)) r u'
   its = rw (frame-kept w.kept) at k
 
@@ -69,10 +67,10 @@ module _ (t line : List ℕ) (p : Place) (u : Tables) (w : Fed t line p u) (r : 
   after_sized = turn_sized (reading_text ((t ++ (line_feed ∷ [])) ++ [])) u w.sized p.counts (line_frame (last_line t)) (bytes-line (last_line t)) (text_frames []) (next []) r u' its
 
   -- refused, whatever comes after
-  pub line-lost : (q : Reading) (k : Refusal) (b : Option ℕ) → r ≡ q → counts_answer q ≡ refused k b → Lost (t ++ (line_feed ∷ [])) k b
-  line-lost q k b g i = record { answer = λ s. sym (rw (g, i) at (ended s)) }
+  pub line-lost : (f : Refused) → r ≡ Err f → Lost (t ++ (line_feed ∷ [])) (refusal_of f.refusal) (blame_of f.node)
+  line-lost f g = record { answer = λ s. sym (rw g at (ended s)) }
 
-  pub line-fed : (c : Counts) → r ≡ reading.Read c → Fed (t ++ (line_feed ∷ [])) line (record { counts = c; held = 0 }) u'
+  pub line-fed : (c : Counts) → r ≡ Ok c → Fed (t ++ (line_feed ∷ [])) line (record { counts = c; held = 0 }) u'
   line-fed c g =
       record {
         kept = rw (last-fed t) (kept-none line w.kept.room);
@@ -91,17 +89,17 @@ module _ (more line₀ : List ℕ) (p₀ : Place) (u₀ : Tables) where
   through_none = record { inside = omega arith; so_far = λ t w. rw (append-nil t) w }
 
   module _ (line : List ℕ) (p : Place) (u : Tables) (i : ℕ) (g : Through more line₀ p₀ u₀ line p u i) where
-    pub through_end : length more ≤ i → FedGiven line₀ p₀ u₀ more (was.Fed p) line u
+    pub through_end : length more ≤ i → FedGiven line₀ p₀ u₀ more (Ok p) line u
     through_end h t w = rw (take_all i more h) at (g.so_far t w)
 
-    module _ (h : i < length more) (r : Feeding) (line' : List ℕ) (u' : Tables) (k : FedGiven line p u (get_or more i 0 ∷ []) r line' u') where
+    module _ (h : i < length more) (r : Result Place Refused) (line' : List ℕ) (u' : Tables) (k : FedGiven line p u (get_or more i 0 ∷ []) r line' u') where
       one_more : (t : List ℕ) → (t ++ take i more) ++ (get_or more i 0 ∷ []) ≡ t ++ take (suc i) more
       one_more t = append_assoc t (take i more) (get_or more i 0 ∷ []) ∙ rw (take-suc more i 0 h)
 
       stands : (t : List ℕ) → Fed t line₀ p₀ u₀ → Stands (t ++ take (suc i) more) r line' u'
       stands t w = rw (one_more t) at (k (t ++ take i more) (g.so_far t w))
 
-      pub through_more : (q : Place) → r ≡ was.Fed q → Through more line₀ p₀ u₀ line' q u' (i + 1)
+      pub through_more : (q : Place) → r ≡ Ok q → Through more line₀ p₀ u₀ line' q u' (i + 1)
       through_more q e = record { inside = omega arith; so_far = λ t w. rw (add-one i) (rw e at (stands t w)) }
 
       -- refused within a piece, refused with all of it
@@ -112,9 +110,9 @@ module _ (more line₀ : List ℕ) (p₀ : Place) (u₀ : Tables) where
           ∙ sym (append_assoc t more s)
 
       pub through_lost :
-          (k : Refusal) (b : Option ℕ) (q : Feeding) → r ≡ q → ((t : List ℕ) → Stands t q line' u' → Lost t k b) → (t : List ℕ) → Fed t line₀ p₀ u₀ → Lost (t ++ more) k b
-      through_lost k b q e f t w =
-          let l : Lost (t ++ take (suc i) more) k b = f (t ++ take (suc i) more) (rw e at (stands t w)) in
+          (f : Refused) → r ≡ Err f → (t : List ℕ) → Fed t line₀ p₀ u₀ → Lost (t ++ more) (refusal_of f.refusal) (blame_of f.node)
+      through_lost f e t w =
+          let l : Lost (t ++ take (suc i) more) (refusal_of f.refusal) (blame_of f.node) = rw e at (stands t w) in
           record { answer = λ s. rw (whole t s) at (l.answer (drop (suc i) more ++ s)) }
 
 -- ---- the end
@@ -128,13 +126,13 @@ then_same (done j) = refl
 then_same (refused k b) = refl
 
 module _ (t line : List ℕ) (p : Place) (u : Tables) (w : Fed t line p u) where
-  pub end_none : p.held ≡ 0 → FillsText t (reading.Read p.counts) u
+  pub end_none : p.held ≡ 0 → FillsText t (Ok p.counts) u
   unfolding read_from text_frames lines_of
   end_none h =
       let e : last_line t ≡ [] = nothing_in (last_line t) (omega (arith, w.kept.count)) in
       record { answer = rw (e, append-nil t) at (w.same []); sized = w.sized }
 
-  module _ (h : p.held ≡ 0 → ⊥) (r : Reading) (u' : Tables) (k : Takes u p.counts (line_frame (take p.held line)) r u') where
+  module _ (h : p.held ≡ 0 → ⊥) (r : Result Counts Refused) (u' : Tables) (k : Takes u p.counts (line_frame (take p.held line)) r u') where
     its-last : Takes u p.counts (line_frame (last_line t)) r u'
     its-last = rw (frame-kept w.kept) at k
 

@@ -1,16 +1,15 @@
 -- A text fed in pieces: where reading it stands after what was fed so far.
 -- Assumes nothing: these are definitions.
-use Rattle.std.specs.Prelude.{ℕ, ◌+◌, min, ◌≡◌, cond, List, [], ◌∷◌, ◌++◌, length, take, set, eqb, ltb}
+use Rattle.std.specs.Prelude.{Result, Ok, Err, ℕ, ◌+◌, min, ◌≡◌, cond, List, [], ◌∷◌, ◌++◌, length, take, set, eqb, ltb}
 use Rattle.std.proofs.Math.Option.{Option}
-use Rattle.meaning.specs.Refusals.{Refusal, refused, malformed, full}
-use Rattle.frames.specs.declared.count.Reading.{Reading}
-use Rattle.frames.specs.Order.{blame_answer}
+use Rattle.meaning.specs.Refusals.{Refusal, refused}
+use Rattle.kinds.specs.Answers.{refusal_of, blame_of}
+use Rattle.kinds.specs.declared.refusal.Refused.{Refused}
+use Rattle.frames.specs.declared.count.Counts.{Counts}
 use Rattle.frames.specs.Tables.{Tables, Sized, input_in}
 use Rattle.frames.specs.Reading.{read_from}
 use Rattle.frames.specs.Text.{line_feed, text_frames, reading_text, FillsText}
 use Rattle.feed.specs.declared.feed.Place.{Place}
-use Rattle.feed.specs.declared.feed.Feeding.{Feeding}
-use Rattle.feed.specs.declared.feed.Feeding.TheVariants as was
 
 -- one more than a line may have
 abbrev pub line_room : ℕ
@@ -48,11 +47,10 @@ pub record Fed (t line : List ℕ) (p : Place) (u : Tables) : Type 0 where
 pub record Lost (t : List ℕ) (k : Refusal) (b : Option ℕ) : Type 0 where
   pub answer : (s : List ℕ) → reading_text (t ++ s) ≡ refused k b
 
--- WHAT Feeding SAYS after the text t
-abbrev pub Stands : List ℕ → Feeding → List ℕ → Tables → Type 0
-Stands t (was.Malformed b) line u = Lost t malformed (blame_answer b)
-Stands t (was.Full b) line u = Lost t full (blame_answer b)
-Stands t (was.Fed p) line u = Fed t line p u
+-- WHAT IS SAID after the text t
+abbrev pub Stands : List ℕ → Result Place Refused → List ℕ → Tables → Type 0
+Stands t (Err f) line u = Lost t (refusal_of f.refusal) (blame_of f.node)
+Stands t (Ok p) line u = Fed t line p u
 
 -- ---- what the functions ask and give: of some text fed so far, and then of whichever it is
 
@@ -60,11 +58,11 @@ abbrev pub FedAsked : List ℕ → Place → Tables → Type 0
 FedAsked line p u = (t : List ℕ) × Fed t line p u
 
 -- after more was fed
-abbrev pub FedGiven : List ℕ → Place → Tables → List ℕ → Feeding → List ℕ → Tables → Type 0
+abbrev pub FedGiven : List ℕ → Place → Tables → List ℕ → Result Place Refused → List ℕ → Tables → Type 0
 FedGiven line p u more r line' u' = (t : List ℕ) → Fed t line p u → Stands (t ++ more) r line' u'
 
 -- after the end
-abbrev pub FinishGiven : List ℕ → Place → Tables → Reading → Tables → Type 0
+abbrev pub FinishGiven : List ℕ → Place → Tables → Result Counts Refused → Tables → Type 0
 FinishGiven line p u r u' = (t : List ℕ) → Fed t line p u → FillsText t r u'
 
 -- a byte kept, where there is room

@@ -4,26 +4,20 @@ ghost use Rattle.frames.specs.Tables.{tables};
 ghost use Rattle.frames.specs.Text.{line_feed};
 ghost use Rattle.feed.specs.Feeding.{fresh, Keeps, FedAsked, FedGiven, FinishGiven};
 
-use frames::count::{Blame, Counts, EXPRESSION_LIMIT, NODE_LIMIT, REQUEST_LIMIT, Reading};
+use frames::count::{Counts, EXPRESSION_LIMIT, NODE_LIMIT, REQUEST_LIMIT};
 use frames::hex::LONGEST_FRAME;
 use frames::tables::NODE_WORDS;
 use frames::text::take_line;
+use kinds::refusal::Refused;
 
 // One more than a line may have: a line that is kept whole in it may still be malformed, one that is not is malformed however it goes on.
 pub const LINE_ROOM: usize = 2 * LONGEST_FRAME + 1;
 
 // What was counted of the lines that ended, and how many bytes of the one that did not are kept.
-#[derive(Drop)]
+#[derive(Clone, Copy)]
 pub struct Place {
     pub counts: Counts,
     pub held: usize,
-}
-
-#[derive(Drop)]
-pub enum Feeding {
-    Malformed(Blame),
-    Full(Blame),
-    Fed(Place),
 }
 
 impl Place {
@@ -31,11 +25,7 @@ impl Place {
         ensures { result ≡ fresh }
     {
         Place {
-            counts: Counts {
-                nodes: 0,
-                expressions: 0,
-                requests: 0,
-            },
+            counts: Counts::default(),
             held: 0,
         }
     }
@@ -45,15 +35,13 @@ impl Place {
 fn keep(b: u8, p: Place, line: &mut [u8; LINE_ROOM]) -> Place
     ensures { Keeps b p line.old result line.new }
 {
-    let held = p.held;
-    if LINE_ROOM <= held {
+    if LINE_ROOM <= p.held {
         return p;
     }
-    line[held] = b;
-    let counts = p.counts;
+    line[p.held] = b;
     Place {
-        counts: counts,
-        held: held + 1,
+        held: p.held + 1,
+        ..p
     }
 }
 
@@ -65,24 +53,19 @@ fn end_line(
     literals: &mut [u64; NODE_LIMIT],
     expressions: &mut [u64; EXPRESSION_LIMIT],
     requests: &mut [u64; REQUEST_LIMIT],
-) -> Feeding
+) -> Result<Place, Refused>
     requires { FedAsked line.now p (tables nodes.old literals.old expressions.old requests.old) }
     ensures { FedGiven line.now p (tables nodes.old literals.old expressions.old requests.old) (line_feed ∷ []) result line.now (tables nodes.new literals.new expressions.new requests.new) }
 {
-    let held = p.held;
-    let counts = p.counts;
-    match take_line(
-        &line[..held],
-        counts,
+    let counts = take_line(
+        &line[..p.held],
+        p.counts,
         nodes,
         literals,
         expressions,
         requests,
-    ) {
-        Reading::Malformed(b) => Feeding::Malformed(b),
-        Reading::Full(b) => Feeding::Full(b),
-        Reading::Read(c) => Feeding::Fed(Place { counts: c, held: 0 }),
-    }
+    )?;
+    Ok(Place { counts, held: 0 })
 }
 
 fn feed_byte(
@@ -93,14 +76,14 @@ fn feed_byte(
     literals: &mut [u64; NODE_LIMIT],
     expressions: &mut [u64; EXPRESSION_LIMIT],
     requests: &mut [u64; REQUEST_LIMIT],
-) -> Feeding
+) -> Result<Place, Refused>
     requires { FedAsked line.old p (tables nodes.old literals.old expressions.old requests.old) }
     ensures { FedGiven line.old p (tables nodes.old literals.old expressions.old requests.old) (b ∷ []) result line.new (tables nodes.new literals.new expressions.new requests.new) }
 {
     if b == b'\n' {
         return end_line(p, line, nodes, literals, expressions, requests);
     }
-    Feeding::Fed(keep(b, p, line))
+    Ok(keep(b, p, line))
 }
 
 // More of the text. Every line that ends in it is taken, up to the first that is refused, whatever comes after it.
@@ -112,25 +95,15 @@ pub fn feed(
     literals: &mut [u64; NODE_LIMIT],
     expressions: &mut [u64; EXPRESSION_LIMIT],
     requests: &mut [u64; REQUEST_LIMIT],
-) -> Feeding
+) -> Result<Place, Refused>
     requires { FedAsked line.old p (tables nodes.old literals.old expressions.old requests.old) }
     ensures { FedGiven line.old p (tables nodes.old literals.old expressions.old requests.old) more.now result line.new (tables nodes.new literals.new expressions.new requests.new) }
 {
     let mut at = p;
-    for i in 0..more.len() {
-        match feed_byte(more[i], at, line, nodes, literals, expressions, requests) {
-            Feeding::Malformed(b) => {
-                return Feeding::Malformed(b);
-            }
-            Feeding::Full(b) => {
-                return Feeding::Full(b);
-            }
-            Feeding::Fed(q) => {
-                at = q;
-            }
-        }
+    for b in more {
+        at = feed_byte(*b, at, line, nodes, literals, expressions, requests)?;
     }
-    Feeding::Fed(at)
+    Ok(at)
 }
 
 // The end of the text, which ends the line that has not ended, if there is one.
@@ -141,18 +114,16 @@ pub fn finish(
     literals: &mut [u64; NODE_LIMIT],
     expressions: &mut [u64; EXPRESSION_LIMIT],
     requests: &mut [u64; REQUEST_LIMIT],
-) -> Reading
+) -> Result<Counts, Refused>
     requires { FedAsked line.now p (tables nodes.old literals.old expressions.old requests.old) }
     ensures { FinishGiven line.now p (tables nodes.old literals.old expressions.old requests.old) result (tables nodes.new literals.new expressions.new requests.new) }
 {
-    let held = p.held;
-    let counts = p.counts;
-    if held == 0 {
-        return Reading::Read(counts);
+    if p.held == 0 {
+        return Ok(p.counts);
     }
     take_line(
-        &line[..held],
-        counts,
+        &line[..p.held],
+        p.counts,
         nodes,
         literals,
         expressions,

@@ -1,6 +1,6 @@
 -- EXACTLY WHEN fixing answers 10, 3 and 9, and when it refuses nothing; and only one outcome fits its contract.
 -- Assumes nothing.
-use Rattle.std.specs.Prelude.{ℕ, Bool, not, ◌&&◌, List, ◌⊎◌, ◌↔◌, length, eqb, ltb, leb}
+use Rattle.std.specs.Prelude.{ℕ, Bool, not, ◌&&◌, List, ◌⊎◌, ◌↔◌, length, eqb, ltb, leb, Result}
 use Rattle.std.proofs.Math.Path.{◌≡◌, refl, ap}
 use Rattle.std.proofs.Common.{sym, ◌∙◌, subst, inl, inr, arith}
 use Rattle.std.proofs.Math.Bool.{true, false}
@@ -21,7 +21,7 @@ use Rattle.fixing.specs.ProverCode.{last_counter, ruled_reference, decided, temp
 use Rattle.fixing.specs.Answers.{ProverCodeIs}
 use Rattle.fixing.specs.Conditions.{NoRule, NotThere, Ruled, WellFormed, Refused10, Refused3, Refused9, Accepted}
 use Rattle.fixing.specs.Laws.Whole.{reference-met}
-use Rattle.fixing.specs.declared.fix_prover_code.Fixed.{Fixed}
+use Rattle.kinds.specs.declared.refusal.Refusal as codes
 
 -- ---- a reference
 
@@ -176,7 +176,7 @@ module _ (cms : List ℕ) where
 
 -- ONLY ONE OUTCOME FITS
 pub one-outcome :
-    (rules cms : List ℕ) (counter : ℕ) (first i last a b c a' b' c' : List ℕ) (r r' : Fixed) →
+    (rules cms : List ℕ) (counter : ℕ) (first i last a b c a' b' c' : List ℕ) (r r' : Result ℕ codes.Refusal) →
     ProverCodeIs rules cms counter first i last a b c r → ProverCodeIs rules cms counter first i last a' b' c' r' →
     (r ≡ r') × (a ≡ a') × (b ≡ b') × (c ≡ c')
 one-outcome rules cms counter first i last a b c a' b' c' r r' x y =

@@ -7,21 +7,11 @@ ghost use Rattle.fixing.specs.Answers.{ProverCodeIs};
 use crate::rewrite::fix_lists;
 use crate::rules::decide;
 use crate::temporaries::{EXPRESSION_LIMIT, ID_LIMIT, LAST_COUNTER, give_lists};
-use kinds::refusal::{MALFORMED, NONE, NOT_THERE};
-
-// The segment's counter after it, or the refusal: 1, 3, 10 or 9.
-#[derive(Drop)]
-pub enum Fixed {
-    Malformed,
-    NotThere,
-    NoRule,
-    Full,
-    Done(usize),
-}
+use kinds::refusal::Refusal;
 
 // `rules` has for each expression what it becomes, as kind * 2^32 + id * 2^16 + dim: cm with an intermediate's cm number, tmpExp with its temporary column in
-// this domain and its dimension, any other kind for a new temporary. `cms` has for each cm number its record in this domain. Walks first, i, last; on a
-// refusal none of them has changed.
+// this domain and its dimension, any other kind for a new temporary. `cms` has for each cm number its record in this domain. Walks first, i, last, and gives the
+// segment's counter after it; on a refusal (1, 3, 10 or 9) none of them has changed.
 pub fn fix_prover_code(
     rules: &[u64; EXPRESSION_LIMIT],
     cms: &[u16],
@@ -29,19 +19,10 @@ pub fn fix_prover_code(
     first: &mut [u8],
     i: &mut [u8],
     last: &mut [u8],
-) -> Fixed
+) -> Result<usize, Refusal>
     ensures { ProverCodeIs rules.now cms.now counter first.old i.old last.old first.new i.new last.new result }
 {
-    let refused = decide(cms, counter, first, i, last);
-    if refused == MALFORMED {
-        return Fixed::Malformed;
-    }
-    if refused == NOT_THERE {
-        return Fixed::NotThere;
-    }
-    if refused != NONE {
-        return Fixed::NoRule;
-    }
+    decide(cms, counter, first, i, last)?;
     fix_decided(rules, cms, counter, first, i, last)
 }
 
@@ -53,7 +34,7 @@ fn fix_decided(
     first: &mut [u8],
     i: &mut [u8],
     last: &mut [u8],
-) -> Fixed
+) -> Result<usize, Refusal>
     requires { decided cms.now counter first.old i.old last.old ≡ fine }
     ensures { ProverCodeIs rules.now cms.now counter first.old i.old last.old first.new i.new last.new result }
 {
@@ -61,8 +42,8 @@ fn fix_decided(
     let mut primed = [0u16; ID_LIMIT];
     let next = give_lists(rules, &mut plain, &mut primed, counter, first, i, last);
     if LAST_COUNTER < next {
-        return Fixed::Full;
+        return Err(Refusal::Full);
     }
     fix_lists(rules, cms, &plain, &primed, first, i, last);
-    Fixed::Done(next)
+    Ok(next)
 }

@@ -1,5 +1,6 @@
 // New temporaries: one for each (prime, expression) of a segment, in the order of the walk. `plain` and `primed` have for each expression its temporary's
-// number plus one, 0 for none. Past the last counter there is `OVER`, which stays.
+// number plus one, 0 for none: tables of `Option<u16>` would take twice the stack. Past the last counter there is `OVER`, which stays. The two tables are
+// parameters, and no struct: by value their 256 KiB could stand on the stack twice, and of a struct of `&mut` each clause would have to say that it keeps them.
 ghost use Rattle.std.specs.Prelude.{◌≡◌, ◌+◌, ◌≤◌, length};
 ghost use Rattle.kinds.specs.References.{reference_size, ref_at};
 ghost use Rattle.kinds.specs.Steps.{step_size, step_at};
@@ -48,18 +49,14 @@ pub fn rule_dim(rule: u64) -> u16
 pub fn rule_for(rules: &[u64; EXPRESSION_LIMIT], id: u16) -> u64
     ensures { result ≡ rule_for rules.now id }
 {
-    let at = id as usize;
-    if at < EXPRESSION_LIMIT { rules[at] } else { 0 }
+    *rules.get(id as usize).unwrap_or(&0)
 }
 
 fn takes_temporary(rules: &[u64; EXPRESSION_LIMIT], id: u16) -> bool
     ensures { result ≡ takes_temporary rules.now id }
 {
     let kind = rule_kind(rule_for(rules, id));
-    if kind == Kind::CM as u64 {
-        return false;
-    }
-    kind != Kind::TMP_EXP as u64
+    kind != Kind::CM as u64 && kind != Kind::TMP_EXP as u64
 }
 
 fn give(table: &mut [u16; ID_LIMIT], id: u16, next: usize) -> usize
@@ -146,9 +143,8 @@ fn give_list(
 ) -> usize
     ensures { tables plain.new primed.new result ≡ give_records rules.now (records_in list.now) (tables plain.old primed.old next) }
 {
-    let count = list.len() / STEP_SIZE;
     let mut after = next;
-    for k in 0..count {
+    for k in 0..list.len() / STEP_SIZE {
         after = give_record(rules, plain, primed, after, list, STEP_SIZE * k);
     }
     after

@@ -11,11 +11,13 @@ use lib.ListN.{length, get_or, set, take, drop, drop_of_length-le}
 use lib.Seq.{drop-cons, take_at}
 use lib.Dec.{eqb, leb}
 use borrow.Author.Tests.{eqb-true, leb-true, le-leb, lt-leb}
+use Rattle.std.specs.Prelude.{MatchBool}
+use Rattle.std.specs.List.{AllWithin, HoldsAt}
 use Rattle.kinds.specs.Range.{within, within-true}
 use Rattle.kinds.specs.Write.{write, write-is, write-none, write-length}
 use Rattle.meaning.specs.Refusals.{done}
 use Rattle.frames.specs.Lines.{longest_frame, is_digit, digit_of, all_digits, line_ok, bytes_of, line_of, line_into, Unhexes}
-use Rattle.frames.specs.declared.hex.Unhexed.TheVariants.{Malformed, Bytes}
+use Rattle.std.specs.Prelude.{Some, None}
 
 -- ---- a digit
 
@@ -53,26 +55,30 @@ digit-small b e = by (digit-cases b e)
         let h : 0x39 < b = omega arith in
         simp (lt-leb b 0x39 h) (omega arith)
 
--- ---- digits from an index on
+-- ---- digits only
 
-pub record Digits (l : List ℕ) (i : ℕ) : Type 0 where
-  pub inside : i ≤ length l
-  pub same : all_digits (drop i l) ≡ all_digits l
+digits-all : (l : List ℕ) → ((k : ℕ) → k < length l → is_digit (get_or l k 0) ≡ true) → all_digits l ≡ true
+unfolding all_digits
+digits-all [] h = refl
+digits-all (b ∷ l) h = simp (h 0 (omega arith)) (digits-all l (λ k g. h (suc k) (omega arith)))
 
-module _ (l : List ℕ) (i : ℕ) (w : Digits l i) where
-  pub digits_fail : i < length l → is_digit (get_or l i 0) ≡ false → false ≡ all_digits l
-  unfolding all_digits
-  digits_fail h e = sym (sym w.same ∙ rw (drop-cons l i 0 h, e))
+digits-but : (l : List ℕ) (k : ℕ) → k < length l → is_digit (get_or l k 0) ≡ false → all_digits l ≡ false
+unfolding all_digits
+digits-but [] k h e = absurd (omega arith)
+digits-but (b ∷ l) zero h e = simp e
+digits-but (b ∷ l) (suc k) h e = by (is_digit b) (digits-but l k (omega arith) e)
+  where
+    by : (s : Bool) → all_digits l ≡ false → (s && all_digits l) ≡ false
+    by true q = q
+    by false q = refl
 
-  pub digits_more : i < length l → is_digit (get_or l i 0) ≡ true → Digits l (i + 1)
-  unfolding all_digits
-  digits_more h e =
-      let z : all_digits (drop i l) ≡ all_digits (drop (suc i) l) = rw (drop-cons l i 0 h, e) in
-      record { inside = omega arith; same = rw (add-one i) (sym z ∙ w.same) }
-
-  pub digits_end : length l ≤ i → true ≡ all_digits l
-  unfolding all_digits
-  digits_end h = sym (ap all_digits (drop_of_length-le l h)) ∙ w.same
+-- what a test of each byte answers
+pub digits_by :
+    (l : List ℕ) (r : Bool)
+    → MatchBool r (AllWithin (λ b. is_digit b ≡ true) l 0 (length l)) ((k : ℕ) × (k < length l) × HoldsAt (λ b. is_digit b ≡ false) l k)
+    → r ≡ all_digits l
+digits_by l true h = sym (digits-all l (λ k g. h k 0 (omega arith) g))
+digits_by l false h = sym (digits-but l h.0 h.1 (h.2 0))
 
 digits-at : (l : List ℕ) → all_digits l ≡ true → (k : ℕ) → k < length l → is_digit (get_or l k 0) ≡ true
 unfolding all_digits
@@ -121,9 +127,6 @@ pub record Decoded (l out₀ : List ℕ) (n : ℕ) (out : List ℕ) (i : ℕ) : 
   pub same : write out i (bytes_of (drop (2 * i) l)) ≡ write out₀ 0 (bytes_of l)
 
 module _ (l : List ℕ) (e : line_ok l ≡ true) where
-  pub decode_start : (out : List ℕ) → Decoded l out (length l / 2) out 0
-  decode_start out = record { half = refl; inside = omega arith; same = refl }
-
   module _ (out₀ : List ℕ) (n : ℕ) (out : List ℕ) (i : ℕ) (w : Decoded l out₀ n out i) where
     pub decode_digit : i < n → (is_digit (get_or l (2 * i) 0) ≡ true) × (is_digit (get_or l (2 * i + 1) 0) ≡ true)
     decode_digit h = ((line l e).digits (2 * i) (omega (arith, w.half)), (line l e).digits (2 * i + 1) (omega (arith, w.half)))
@@ -145,7 +148,7 @@ module _ (l : List ℕ) (e : line_ok l ≡ true) where
         let z : drop (2 * i) l ≡ [] = drop_of_length-le l {i = 2 * i} (omega (arith, w.half, (line l e).even)) in
         sym (write-none out i) ∙ rw z at w.same
 
-  pub unhexed : (out after : List ℕ) → length out ≡ longest_frame → after ≡ write out 0 (bytes_of l) → Unhexes l (Bytes (length l / 2)) out after
+  pub unhexed : (out after : List ℕ) → length out ≡ longest_frame → after ≡ write out 0 (bytes_of l) → Unhexes l (Some (length l / 2)) out after
   unfolding line_of line_into
   unhexed out after h g =
       let n : length (bytes_of l) ≡ length l / 2 = bytes-length l in
@@ -158,6 +161,6 @@ module _ (l : List ℕ) (e : line_ok l ≡ true) where
         inside = λ m q. let k : length l / 2 ≡ m = cc in omega (arith, (line l e).short);
       }
 
-pub not-unhexed : (l out : List ℕ) → line_ok l ≡ false → Unhexes l Malformed out out
+pub not-unhexed : (l out : List ℕ) → line_ok l ≡ false → Unhexes l None out out
 unfolding line_of line_into
 not-unhexed l out e = record { answer = simp e; buffer = simp e; inside = λ m q. let z : ◌≡◌ {A = ℕ} 0 1 = cc in absurd (omega arith) }

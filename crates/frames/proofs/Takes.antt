@@ -5,6 +5,9 @@ use mathlib.Core.List.{List}
 use mathlib.Core.Option.{Option}
 use Prim.Native.Nat.{ℕ}
 use native.Mathlib.Omega.{arith}
+use Rattle.std.specs.Prelude as std
+use Rattle.std.specs.Prelude.{Result, Ok, Err}
+use Rattle.kinds.specs.declared.refusal.Refused.{Refused}
 use Rattle.meaning.specs.Refusals.{Answer, done, refused, Refusal, ◌then◌}
 use Rattle.frames.specs.Frames.{Item, frame_of, frame_answer}
 use Rattle.frames.specs.Order.{place, at_fault, blaming, count_of, counts_answer}
@@ -12,18 +15,16 @@ use Rattle.frames.specs.Tables.{Tables, Room, put, or_else, put_all, take_into, 
 use Rattle.frames.specs.Taking.{has_room, then-done}
 use Rattle.frames.specs.declared.frame.Frame.{Frame}
 use Rattle.frames.specs.declared.count.Counts.{Counts}
-use Rattle.frames.specs.declared.count.Reading.{Reading}
-use Rattle.frames.specs.declared.count.Reading.TheVariants.{Read}
 
 module _
-    (x : Frame) (c : Counts) (f : List ℕ) (r : Reading) (e : frame_answer x ≡ frame_of f)
+    (x : std.Option Frame) (c : Counts) (f : List ℕ) (r : Result Counts Refused) (e : frame_answer x ≡ frame_of f)
     (p : counts_answer r ≡ blaming (at_fault c.nodes f) (frame_answer x then place c))
   where
     counted : counts_answer r ≡ count_of c f
     unfolding count_of
     counted = rw e at p
 
-    pub room : (d : Counts) → r ≡ Read d → Room c (frame_answer x)
+    pub room : (d : Counts) → r ≡ Ok d → Room c (frame_answer x)
     room d q = has_room c (frame_answer x) _ d (sym p ∙ ap counts_answer q)
 
     pub refuses : (t : Tables) (k : Refusal) (b : Option ℕ) → counts_answer r ≡ refused k b → take_into t c f ≡ t
@@ -43,8 +44,8 @@ module _
     puts t d q = then-done (frame_answer x) (place c) d _ (sym p ∙ q) (put_all t c (frame_answer x) ≡ take_into t c f) (λ y g h. rw (← e, g, h))
 
     module _ (t : Tables) where
-      pub refused-takes : (s : Reading) (k : Refusal) (b : Option ℕ) → r ≡ s → counts_answer s ≡ refused k b → Takes t c f s t
-      refused-takes s k b q h = record { answer = sym (ap counts_answer q) ∙ counted; after = sym (refuses t k b (ap counts_answer q ∙ h)) }
+      pub refused-takes : (e : Refused) → r ≡ Err e → Takes t c f (Err e) t
+      refused-takes e q = record { answer = sym (ap counts_answer q) ∙ counted; after = sym (refuses t _ _ (ap counts_answer q)) }
 
-      pub read-takes : (d : Counts) (u : Tables) → r ≡ Read d → u ≡ put_all t c (frame_answer x) → Takes t c f (Read d) u
+      pub read-takes : (d : Counts) (u : Tables) → r ≡ Ok d → u ≡ put_all t c (frame_answer x) → Takes t c f (Ok d) u
       read-takes d u q h = record { answer = sym (ap counts_answer q) ∙ counted; after = h ∙ puts t d (ap counts_answer q) }

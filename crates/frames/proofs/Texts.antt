@@ -1,16 +1,18 @@
 -- One line taken, and where reading a text stands at an index: what is left, after what the tables hold, is the whole.
 -- Assumes nothing.
-use mathlib.Core.Path.{◌≡◌, refl, sym, ◌∙◌}
+use mathlib.Core.Path.{◌≡◌, refl, ap, sym, ◌∙◌}
 use mathlib.Core.Bool.{Bool, true, false, cond}
 use mathlib.Core.List.{List, [], ◌∷◌}
-use mathlib.Core.Option.{Option, none}
+use mathlib.Core.Option.{none}
 use Prim.Native.Nat.{ℕ, zero, suc, ◌+◌, ◌-◌, ◌≤◌, ◌<◌}
 use native.Mathlib.Omega.{arith}
-use native.Mathlib.Numerals.{add-one}
-use lib.ListN.{length, get_or, take, drop, drop_of_length-le}
-use lib.Seq.{drop-cons}
+use lib.ListN.{length, get_or, take, drop}
 use borrow.Author.Tests.{eq-eqb, ne_eqb}
-use Rattle.meaning.specs.Refusals.{done, refused, Refusal, malformed, ◌then◌}
+use Rattle.std.specs.Prelude as std
+use Rattle.std.specs.List.{AllWithin, HoldsAt}
+use Rattle.std.specs.Prelude.{MatchOption, unwrap_or, Result, Ok, Err, Some, None}
+use Rattle.kinds.specs.declared.refusal.Refused.{Refused}
+use Rattle.meaning.specs.Refusals.{done, refused, malformed, ◌then◌}
 use Rattle.frames.specs.Frames.{frame_of}
 use Rattle.frames.specs.Order.{counts_answer}
 use Rattle.frames.specs.Lines.{is_digit, line_ok, bytes_of, line_of, Unhexes}
@@ -22,41 +24,30 @@ use Rattle.frames.specs.Text.{line_feed, line_frame, text_frames, reading_text, 
 use Rattle.frames.specs.TextLaws.{end-inside, end_after, frames-at, text-end}
 use Rattle.frames.proofs.Digits.{digit-small, line}
 use Rattle.frames.proofs.Loops.{zeros, turn, turn_sized}
-use Rattle.frames.specs.declared.hex.Unhexed.{Unhexed}
-use Rattle.frames.specs.declared.hex.Unhexed.TheVariants as was
 use Rattle.frames.specs.declared.count.Counts.{Counts}
-use Rattle.frames.specs.declared.count.Reading.{Reading}
-use Rattle.frames.specs.declared.count.Reading.TheVariants.{Read}
 
 -- ---- the end of a line
 
-pub record Ending (t : List ℕ) (at i : ℕ) : Type 0 where
-  pub inside : i ≤ length t
-  pub same : i + first_end (drop i t) ≡ end_at t at
+first-is : (l : List ℕ) (i : ℕ) → i < length l → get_or l i 0 ≡ line_feed → ((k : ℕ) → k < i → get_or l k 0 ≡ line_feed → ⊥) → i ≡ first_end l
+unfolding first_end
+first-is [] i h e f = absurd (omega arith)
+first-is (b ∷ l) zero h e f = simp (eq-eqb _ _ e)
+first-is (b ∷ l) (suc i) h e f = simp (ne_eqb _ _ (f 0 (omega arith))) (ap suc (first-is l i (omega arith) e (λ k g. f (suc k) (omega arith))))
 
-module _ (t : List ℕ) (at : ℕ) where
-  pub ending_start : at < length t → Ending t at at
-  unfolding end_at
-  ending_start h = record { inside = omega arith; same = refl }
+first-none : (l : List ℕ) → ((k : ℕ) → k < length l → get_or l k 0 ≡ line_feed → ⊥) → length l ≡ first_end l
+unfolding first_end
+first-none [] f = refl
+first-none (b ∷ l) f = simp (ne_eqb _ _ (f 0 (omega arith))) (ap suc (first-none l (λ k g. f (suc k) (omega arith))))
 
-  module _ (i : ℕ) (w : Ending t at i) where
-    pub ending_found : i < length t → get_or t i 0 ≡ line_feed → i ≡ end_at t at
-    unfolding first_end
-    ending_found h e =
-        let z : first_end (drop i t) ≡ 0 = rw (drop-cons t i 0 h) (simp (eq-eqb _ _ e)) in
-        omega (arith, w.same)
-
-    pub ending_more : i < length t → (get_or t i 0 ≡ line_feed → ⊥) → Ending t at (i + 1)
-    unfolding first_end
-    ending_more h e =
-        let z : first_end (drop i t) ≡ suc (first_end (drop (suc i) t)) = rw (drop-cons t i 0 h) (simp (ne_eqb _ _ e)) in
-        record { inside = omega arith; same = rw (add-one i) (omega (arith, w.same)) }
-
-    pub ending_end : length t ≤ i → i ≡ end_at t at
-    unfolding first_end
-    ending_end h =
-        let z : first_end (drop i t) ≡ 0 = rw (drop_of_length-le t h) in
-        omega (arith, w.same)
+-- what looking for a line feed answers
+pub first_by :
+    (l : List ℕ) (r : std.Option ℕ)
+    → MatchOption r
+    (AllWithin (λ b. b ≡ line_feed → ⊥) l 0 (length l))
+    (λ i. (i < length l) × HoldsAt (λ b. b ≡ line_feed) l i × AllWithin (λ b. b ≡ line_feed → ⊥) l 0 i)
+    → unwrap_or r (length l) ≡ first_end l
+first_by l None h = first-none l (λ k g. h k 0 (omega arith) g)
+first_by l (Some i) h = first-is l i h.0 (h.1 0) (λ k g. h.2 k 0 (omega arith) g)
 
 pub record Ended (t : List ℕ) (at end : ℕ) : Type 0 where
   pub order : at ≤ end
@@ -67,8 +58,8 @@ ended {t} {at} {end} e h = rw e (record { order = end_after t at h; inside = end
 
 -- ---- one line
 
-module _ (l : List ℕ) (r : Unhexed) (out after : List ℕ) (w : Unhexes l r out after) where
-  no-frame : r ≡ was.Malformed → line_frame l ≡ []
+module _ (l : List ℕ) (r : std.Option ℕ) (out after : List ℕ) (w : Unhexes l r out after) where
+  no-frame : r ≡ None → line_frame l ≡ []
   unfolding line_of line_frame
   no-frame q = by (line_ok l) (rw q at w.answer)
     where
@@ -76,7 +67,7 @@ module _ (l : List ℕ) (r : Unhexed) (out after : List ℕ) (w : Unhexes l r ou
       by true e = let z : ◌≡◌ {A = ℕ} 0 1 = cc in absurd (omega arith)
       by false e = refl
 
-  its-frame : (n : ℕ) → r ≡ was.Bytes n → take n after ≡ line_frame l
+  its-frame : (n : ℕ) → r ≡ Some n → take n after ≡ line_frame l
   unfolding line_of line_frame
   its-frame n q = by (line_ok l) (rw q at w.answer)
     where
@@ -85,11 +76,11 @@ module _ (l : List ℕ) (r : Unhexed) (out after : List ℕ) (w : Unhexes l r ou
       by false e = let z : ◌≡◌ {A = ℕ} 0 1 = cc in absurd (omega arith)
 
   module _ (t : Tables) (c : Counts) where
-    pub line_refused : r ≡ was.Malformed → (q : Reading) → counts_answer q ≡ refused malformed none → Takes t c (line_frame l) q t
+    pub line_refused : r ≡ None → (q : Result Counts Refused) → counts_answer q ≡ refused malformed none → Takes t c (line_frame l) q t
     unfolding take_into frame_of
     line_refused e q h = rw (no-frame e) (record { answer = h ∙ sym (count-empty c); after = refl })
 
-    pub line_taken : (n : ℕ) → r ≡ was.Bytes n → (q : Reading) (u : Tables) → Takes t c (take n after) q u → Takes t c (line_frame l) q u
+    pub line_taken : (n : ℕ) → r ≡ Some n → (q : Result Counts Refused) (u : Tables) → Takes t c (take n after) q u → Takes t c (line_frame l) q u
     line_taken n e q u h = rw (its-frame n e) at h
 
 -- the frame of a line is of bytes
@@ -124,11 +115,11 @@ module _ (s : List ℕ) (t : Tables) where
   text_start h = record { sized = h; same = refl }
 
   module _ (c : Counts) (at : ℕ) (w : FilledText s t c at) where
-    pub text_done : length s ≤ at → FillsText s (Read c) t
+    pub text_done : length s ≤ at → FillsText s (Ok c) t
     unfolding read_from
     text_done h = record { answer = rw (text-end s at h) at w.same; sized = w.sized }
 
-    module _ (h : at < length s) (end : ℕ) (e : end ≡ end_at s at) (r : Reading) (u : Tables) (p : Takes t c (line_frame (take (end - at) (drop at s))) r u) where
+    module _ (h : at < length s) (end : ℕ) (e : end ≡ end_at s at) (r : Result Counts Refused) (u : Tables) (p : Takes t c (line_frame (take (end - at) (drop at s))) r u) where
       left : text_frames (drop at s) ≡ line_frame (take (end - at) (drop at s)) ∷ text_frames (drop (end + 1) s)
       left = rw e (frames-at s at h)
 
@@ -138,8 +129,8 @@ module _ (s : List ℕ) (t : Tables) where
       after_sized : Sized u
       after_sized = turn_sized (reading_text s) t w.sized c _ (bytes-line _) _ (rw left at w.same) r u p
 
-      pub text_refused : (q : Reading) (k : Refusal) (o : Option ℕ) → r ≡ q → counts_answer q ≡ refused k o → FillsText s q u
-      text_refused q k o g i = record { answer = rw i (rw (g, i) at text_turn); sized = after_sized }
+      pub text_refused : (f : Refused) → r ≡ Err f → FillsText s (Err f) u
+      text_refused f g = record { answer = rw g at text_turn; sized = after_sized }
 
-      pub text_more : (d : Counts) → r ≡ Read d → FilledText s u d (end + 1)
+      pub text_more : (d : Counts) → r ≡ Ok d → FilledText s u d (end + 1)
       text_more d g = record { sized = after_sized; same = rw g at text_turn }

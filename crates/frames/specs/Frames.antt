@@ -1,6 +1,6 @@
 -- Any frame, by its type byte: 01 a node, 02 an expression, 03 a request.
 -- Assumes nothing: these are definitions.
-use Rattle.std.specs.Prelude.{cond, List, ℕ, length, eqb}
+use Rattle.std.specs.Prelude.{Option, Some, None, cond, List, ℕ, length, eqb}
 use Rattle.std.proofs.Math.Option.{none}
 use Rattle.meaning.specs.Refusals.{Answer, done, refused, malformed, ◌then◌}
 use Rattle.frames.specs.Nodes.{type_byte, node_of}
@@ -34,8 +34,11 @@ frame_of f =
     (cond (eqb (type_byte f) 3) (from_request (request_of f))
     (refused malformed none))))
 
-abbrev pub frame_answer : Frame → Answer Item
-frame_answer frame.Malformed = refused malformed none
-frame_answer (frame.Node x) = done (node x)
-frame_answer (frame.Expression x) = done (expression x)
-frame_answer (frame.Request x) = done (request x)
+abbrev pub item_of : Frame → Item
+item_of (frame.Node x) = node x
+item_of (frame.Expression x) = expression x
+item_of (frame.Request x) = request x
+
+abbrev pub frame_answer : Option Frame → Answer Item
+frame_answer None = refused malformed none
+frame_answer (Some x) = done (item_of x)

@@ -1,6 +1,6 @@
 -- What is read is within the limits.
 -- Assumes nothing.
-use Rattle.std.specs.Prelude.{◌≡◌, refl, List, [], ◌∷◌, ℕ, ◌≤◌}
+use Rattle.std.specs.Prelude.{Ok, ◌≡◌, refl, List, [], ◌∷◌, ℕ, ◌≤◌}
 use Rattle.std.proofs.Common.{sym, arith}
 use Rattle.meaning.specs.Refusals.{Answer, done, refused, ◌then◌}
 use Rattle.frames.specs.Frames.{Item, node, expression, request, frame_of}
@@ -9,7 +9,6 @@ use Rattle.frames.specs.Tables.{Tables, Room, input_in}
 use Rattle.frames.specs.Taking.{more, placed, then-done, counts_in, counts-add}
 use Rattle.frames.specs.Reading.{read_from, frames_in, reading, held}
 use Rattle.frames.specs.declared.count.Counts.{Counts}
-use Rattle.frames.specs.declared.count.Reading.TheVariants.{Read}
 
 pub record Within (c : Counts) : Type 0 where
   pub nodes : c.nodes ≤ node_limit
@@ -58,10 +57,10 @@ unfolding reading
 within s i e = within_all (frames_in s) i e
 
 -- of what stands in the tables
-pub held-within : (fs : List (List ℕ)) (t : Tables) (c : Counts) → held t (Read c) ≡ read_from nothing fs → Within c
+pub held-within : (fs : List (List ℕ)) (t : Tables) (c : Counts) → held t (Ok c) ≡ read_from nothing fs → Within c
 held-within fs t c e = rw (counts_in t c) at (within_all fs (input_in t c) (sym e))
 
 -- of what `fill` and `read` answer
-pub read-within : (s : List ℕ) (t : Tables) (c : Counts) → held t (Read c) ≡ reading s → Within c
+pub read-within : (s : List ℕ) (t : Tables) (c : Counts) → held t (Ok c) ≡ reading s → Within c
 unfolding reading
 read-within s t c e = held-within (frames_in s) t c e

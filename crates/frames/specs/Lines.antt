@@ -1,12 +1,10 @@
 -- A line of lower-case hexadecimal, as the bytes of a frame.
 -- Assumes nothing: these are definitions.
-use Rattle.std.specs.Prelude.{Bool, true, cond, not, ◌&&◌, ◌||◌, List, [], ◌∷◌, ◌≡◌, ℕ, ◌+◌, ◌*◌, ◌-◌, ◌%◌, ◌≤◌, length, take, eqb, leb}
+use Rattle.std.specs.Prelude.{Option, Some, None, Bool, true, cond, not, ◌&&◌, ◌||◌, List, [], ◌∷◌, ◌≡◌, ℕ, ◌+◌, ◌*◌, ◌-◌, ◌%◌, ◌≤◌, length, take, eqb, leb}
 use Rattle.std.proofs.Math.Option.{none}
 use Rattle.kinds.specs.Range.{within}
 use Rattle.kinds.specs.Write.{write}
 use Rattle.meaning.specs.Refusals.{Answer, done, refused, malformed}
-use Rattle.frames.specs.declared.hex.Unhexed.{Unhexed}
-use Rattle.frames.specs.declared.hex.Unhexed.TheVariants.{Malformed, Bytes}
 
 -- a node frame with 255 children and a literal
 abbrev pub longest_frame : ℕ
@@ -40,15 +38,15 @@ line_of l = cond (line_ok l) (done (bytes_of l)) (refused malformed none)
 -- ---- what the code answers
 
 -- with the buffer as it is left
-abbrev pub unhex_answer : List ℕ → Unhexed → Answer (List ℕ)
-unhex_answer out Malformed = refused malformed none
-unhex_answer out (Bytes n) = done (take n out)
+abbrev pub unhex_answer : List ℕ → Option ℕ → Answer (List ℕ)
+unhex_answer out None = refused malformed none
+unhex_answer out (Some n) = done (take n out)
 
 -- the buffer after a line: its bytes written over the front, and where it is malformed as it was
 unfoldable pub line_into : List ℕ → List ℕ → List ℕ
 line_into out l = cond (line_ok l) (write out 0 (bytes_of l)) out
 
-pub record Unhexes (l : List ℕ) (r : Unhexed) (out after : List ℕ) : Type 0 where
+pub record Unhexes (l : List ℕ) (r : Option ℕ) (out after : List ℕ) : Type 0 where
   pub answer : unhex_answer after r ≡ line_of l
   pub buffer : after ≡ line_into out l
-  pub inside : (n : ℕ) → r ≡ Bytes n → n ≤ length after
+  pub inside : (n : ℕ) → r ≡ Some n → n ≤ length after

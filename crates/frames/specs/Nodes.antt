@@ -1,6 +1,6 @@
 -- A node frame, as document 01 has it: 01, kind, next, id (2 bytes), child count, children (2 bytes each), and for number, addc and mulc a
 -- sign and 8 bytes. Assumes nothing: these are definitions.
-use Rattle.std.specs.Prelude.{Bool, cond, ◌&&◌, ◌||◌, List, ℕ, ◌+◌, ◌*◌, length, get_or, eqb, ltb, leb}
+use Rattle.std.specs.Prelude.{Option, Some, None, Bool, cond, ◌&&◌, ◌||◌, List, ℕ, ◌+◌, ◌*◌, length, get_or, eqb, ltb, leb}
 use Rattle.std.proofs.Math.Option.{none}
 use Rattle.kinds.specs.Kinds.{is_node_kind, carries_id, carries_literal}
 use Rattle.kinds.specs.BigEndian.{u16_at}
@@ -8,8 +8,6 @@ use Rattle.kinds.specs.Literals.{is_allowed}
 use Rattle.kinds.specs.declared.literal.Literal.{Literal}
 use Rattle.meaning.specs.Refusals.{Answer, done, refused, malformed}
 use Rattle.frames.specs.declared.node.Node.{Node}
-use Rattle.frames.specs.declared.node.NodeRead.{NodeRead}
-use Rattle.frames.specs.declared.node.NodeRead.TheVariants.{Malformed, Read}
 
 -- eight bytes, the high one first
 unfoldable pub u64_at : List ℕ → ℕ → ℕ
@@ -87,6 +85,7 @@ node_from f =
 unfoldable pub node_of : List ℕ → Answer Node
 node_of f = cond (node_ok f) (done (node_from f)) (refused malformed none)
 
-abbrev pub node_answer : NodeRead → Answer Node
-node_answer Malformed = refused malformed none
-node_answer (Read x) = done x
+-- what the code answers
+abbrev pub node_answer : Option Node → Answer Node
+node_answer None = refused malformed none
+node_answer (Some x) = done x

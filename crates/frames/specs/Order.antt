@@ -1,18 +1,17 @@
 -- Nodes, then expressions, then requests, and no more of each than a pool may have: a frame after what was read, and who is to blame where it
 -- is refused. Assumes nothing: these are definitions.
-use Rattle.std.specs.Prelude.{cond, ◌&&◌, List, [], ◌∷◌, ◌++◌, ℕ, ◌+◌, length, eqb, ltb}
+use Rattle.std.specs.Prelude as std
+use Rattle.std.specs.Prelude.{Result, cond, ◌&&◌, List, [], ◌∷◌, ◌++◌, ℕ, ◌+◌, length, eqb, ltb}
 use Rattle.std.proofs.Math.Option.{Option, none, some}
 use Rattle.meaning.specs.Refusals.{Answer, done, refused, malformed, full, ◌then◌}
+use Rattle.kinds.specs.Answers.{blame_of, answer_of}
+use Rattle.kinds.specs.declared.refusal.Refused.{Refused}
 use Rattle.frames.specs.Nodes.{type_byte}
 use Rattle.frames.specs.Frames.{Item, node, expression, request, frame_of}
 use Rattle.frames.specs.declared.node.Node.{Node}
 use Rattle.frames.specs.declared.rest.Expression.{Expression}
 use Rattle.frames.specs.declared.rest.Request.{Request}
 use Rattle.frames.specs.declared.count.Counts.{Counts}
-use Rattle.frames.specs.declared.count.Blame.{Blame}
-use Rattle.frames.specs.declared.count.Blame.TheVariants as blame
-use Rattle.frames.specs.declared.count.Reading.{Reading}
-use Rattle.frames.specs.declared.count.Reading.TheVariants as reading
 
 abbrev pub node_limit : ℕ
 node_limit = 4096
@@ -93,11 +92,8 @@ step i f = blaming (at_fault (length i.nodes) f) (frame_of f then λ x. place (c
 
 -- ---- what the code answers
 
-abbrev pub blame_answer : Blame → Option ℕ
-blame_answer (blame.Node n) = some n
-blame_answer blame.Nothing = none
+abbrev pub blame_answer : std.Option ℕ → Option ℕ
+blame_answer = blame_of
 
-abbrev pub counts_answer : Reading → Answer Counts
-counts_answer (reading.Malformed b) = refused malformed (blame_answer b)
-counts_answer (reading.Full b) = refused full (blame_answer b)
-counts_answer (reading.Read c) = done c
+abbrev pub counts_answer : Result Counts Refused → Answer Counts
+counts_answer = answer_of

@@ -1,6 +1,6 @@
 -- What is read is in range: a node's next, an expression's flags, a request's prime and muladd.
 -- Assumes nothing.
-use Rattle.std.specs.Prelude.{◌≡◌, refl, true, List, [], ◌∷◌, ℕ, ◌≤◌, ◌<◌, length, eqb, leb}
+use Rattle.std.specs.Prelude.{Ok, ◌≡◌, refl, true, List, [], ◌∷◌, ℕ, ◌≤◌, ◌<◌, length, eqb, leb}
 use Rattle.std.proofs.Common.{sym, arith}
 use Rattle.std.proofs.Math.Decide.{le_ind}
 use borrow.Author.Tests.{leb-true}
@@ -20,7 +20,6 @@ use Rattle.frames.specs.declared.node.Node.{Node}
 use Rattle.frames.specs.declared.rest.Expression.{Expression}
 use Rattle.frames.specs.declared.rest.Request.{Request}
 use Rattle.frames.specs.declared.count.Counts.{Counts}
-use Rattle.frames.specs.declared.count.Reading.TheVariants.{Read}
 
 -- ---- one item
 
@@ -121,7 +120,7 @@ pub record RangedIn (t : Tables) (c : Counts) : Type 0 where
   pub prime : (k : ℕ) → k < c.requests → (request_in t.requests k).prime ≤ 1
   pub muladd : (k : ℕ) → k < c.requests → (request_in t.requests k).muladd ≤ 1
 
-pub held-ranged : (fs : List (List ℕ)) (t : Tables) (c : Counts) → held t (Read c) ≡ read_from nothing fs → RangedIn t c
+pub held-ranged : (fs : List (List ℕ)) (t : Tables) (c : Counts) → held t (Ok c) ≡ read_from nothing fs → RangedIn t c
 unfolding input_in
 held-ranged fs t c e =
     let r = ranged-all fs (input_in t c) (sym e) in
@@ -133,6 +132,6 @@ held-ranged fs t c e =
     }
 
 -- of what `fill` and `read` answer
-pub read-ranged : (s : List ℕ) (t : Tables) (c : Counts) → held t (Read c) ≡ reading s → RangedIn t c
+pub read-ranged : (s : List ℕ) (t : Tables) (c : Counts) → held t (Ok c) ≡ reading s → RangedIn t c
 unfolding reading
 read-ranged s t c e = held-ranged (frames_in s) t c e

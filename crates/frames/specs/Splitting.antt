@@ -1,8 +1,8 @@
 -- Laws of the frames of a slice, with no word of fuel, and of what is read and counted of them.
 -- Assumes nothing.
 use Rattle.std.proofs.Math.Path.{◌≡◌}
-use Rattle.std.specs.Prelude.{refl, Bool, ℕ, zero, suc, ◌+◌, ◌*◌, ◌-◌, ◌≤◌, ◌<◌, take, drop, leb, ltb}
-use Rattle.std.proofs.Common.{◌∙◌, length-take, drop_of_length-le, drop-cons, drop-drop, get_or-take, get_or-drop, le-leb, leb-true, leb-false, ltb-true, ltb-false}
+use Rattle.std.specs.Prelude.{Option, Some, None, refl, Bool, ℕ, zero, suc, ◌+◌, ◌*◌, ◌-◌, ◌≤◌, ◌<◌, take, drop, leb, ltb}
+use Rattle.std.proofs.Common.{ap, sym, ◌∙◌, length-take, drop_of_length-le, drop-cons, drop-drop, get_or-take, get_or-drop, le-leb, leb-true, leb-false, ltb-true, ltb-false}
 use Rattle.std.proofs.Math.Bool.{true, false, cond}
 use mathlib.Core.List.{List, [], ◌∷◌}
 use Rattle.std.proofs.Math.Option.{none}
@@ -14,9 +14,17 @@ use Rattle.meaning.specs.Refusals.{Answer, done, refused, malformed, ◌then◌}
 use Rattle.frames.specs.Frames.{frame_of}
 use Rattle.frames.specs.Order.{Input, counts_of, at_fault, count_of, step}
 use Rattle.frames.specs.Taking.{Bytes, count-step}
-use Rattle.frames.specs.Reading.{split, frames_in, read_from, counted, next_at}
+use Rattle.frames.specs.Reading.{split, frames_in, read_from, counted, span, next_at}
 use Rattle.frames.specs.declared.count.Counts.{Counts}
-use Rattle.frames.specs.declared.read.Next.TheVariants.{Cut, Frame}
+
+-- a span's start and end
+from_of : Option (ℕ × ℕ) → ℕ
+from_of None = 0
+from_of (Some p) = p.0
+
+end_of : Option (ℕ × ℕ) → ℕ
+end_of None = 0
+end_of (Some p) = p.1
 
 -- ---- fuel
 
@@ -79,13 +87,13 @@ module _ (s : List ℕ) (at : ℕ) where
         rw two-more (frames-more (get_or s at 0) (get_or s (at + 1) 0) (drop (at + 2) s) ∙ simp (le-leb _ _ z, drop-drop))
 
   -- what `next_frame` answers
-  pub next-cut : at < length s → next_at s at ≡ Cut → frames_in (drop at s) ≡ [] ∷ []
+  pub next-cut : at < length s → next_at s at ≡ None → frames_in (drop at s) ≡ [] ∷ []
   unfolding next_at
   next-cut h e = by (leb (at + 2) (length s)) (leb-true _ _) (leb-false _ _) (leb (at + 2 + u16_at s at) (length s)) (leb-false _ _) e
     where
       by :
           (a : Bool) → (a ≡ true → at + 2 ≤ length s) → (a ≡ false → length s < at + 2) → (b : Bool) → (b ≡ false → length s < at + 2 + u16_at s at)
-          → cond a (cond b (Frame (at + 2) (at + 2 + u16_at s at)) Cut) Cut ≡ Cut → frames_in (drop at s) ≡ [] ∷ []
+          → cond a (cond b (span (at + 2) (at + 2 + u16_at s at)) None) None ≡ None → frames_in (drop at s) ≡ [] ∷ []
       by true p q true r e = let z : ◌≡◌ {A = ℕ} 0 1 = cc in absurd (omega arith)
       by true p q false r e = cut-long (p refl) (r refl)
       by false p q b r e = cut_short h (q refl)
@@ -96,8 +104,8 @@ module _ (s : List ℕ) (at : ℕ) where
     pub inside : end ≤ length s
     pub frames : frames_in (drop at s) ≡ take (end - from) (drop from s) ∷ frames_in (drop end s)
 
-  pub next-whole : (from end : ℕ) → next_at s at ≡ Frame from end → Following from end
-  unfolding next_at
+  pub next-whole : (from end : ℕ) → next_at s at ≡ span from end → Following from end
+  unfolding next_at from_of end_of
   next-whole from end e = by (leb (at + 2) (length s)) (leb-true _ _) (leb (at + 2 + u16_at s at) (length s)) (leb-true _ _) e
     where
       found : (f d : ℕ) → f ≡ at + 2 → d ≡ at + 2 + u16_at s at → at + 2 ≤ length s → at + 2 + u16_at s at ≤ length s → Following f d
@@ -107,8 +115,8 @@ module _ (s : List ℕ) (at : ℕ) where
 
       by :
           (a : Bool) → (a ≡ true → at + 2 ≤ length s) → (b : Bool) → (b ≡ true → at + 2 + u16_at s at ≤ length s)
-          → cond a (cond b (Frame (at + 2) (at + 2 + u16_at s at)) Cut) Cut ≡ Frame from end → Following from end
-      by true p true r e = found from end (cc) (cc) (p refl) (r refl)
+          → cond a (cond b (span (at + 2) (at + 2 + u16_at s at)) None) None ≡ span from end → Following from end
+      by true p true r e = found from end (sym (ap from_of e)) (sym (ap end_of e)) (p refl) (r refl)
       by true p false r e = let z : ◌≡◌ {A = ℕ} 0 1 = cc in absurd (omega arith)
       by false p b r e = let z : ◌≡◌ {A = ℕ} 0 1 = cc in absurd (omega arith)
 

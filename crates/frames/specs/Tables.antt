@@ -1,14 +1,14 @@
 -- The tables: two words for each node, the second with its children, a word for its literal, and a word for each expression and request. What
 -- stands in them at an index, and what is stored. Assumes nothing: these are definitions.
-use Rattle.std.specs.Prelude.{cond, List, [], ◌∷◌, ◌++◌, ◌≡◌, ℕ, zero, suc, ◌+◌, ◌*◌, ◌/◌, ◌%◌, ◌<◌, length, get_or, set, eqb}
+use Rattle.std.specs.Prelude.{Result, cond, List, [], ◌∷◌, ◌++◌, ◌≡◌, ℕ, zero, suc, ◌+◌, ◌*◌, ◌/◌, ◌%◌, ◌<◌, length, get_or, set, eqb}
 use Rattle.meaning.specs.Refusals.{Answer, done, refused, ◌then◌}
+use Rattle.kinds.specs.declared.refusal.Refused.{Refused}
 use Rattle.frames.specs.Frames.{Item, node, expression, request, frame_of}
 use Rattle.frames.specs.Order.{Input, node_limit, expression_limit, request_limit, place, count_of, counts_answer}
 use Rattle.frames.specs.declared.node.Node.{Node}
 use Rattle.frames.specs.declared.rest.Expression.{Expression}
 use Rattle.frames.specs.declared.rest.Request.{Request}
 use Rattle.frames.specs.declared.count.Counts.{Counts}
-use Rattle.frames.specs.declared.count.Reading.{Reading}
 
 -- ---- words
 
@@ -135,6 +135,6 @@ input_in t c =
     }
 
 -- ---- what `take` gives: the counts after the frame, and the tables after it; u is t where it is refused
-pub record Takes (t : Tables) (c : Counts) (f : List ℕ) (r : Reading) (u : Tables) : Type 0 where
+pub record Takes (t : Tables) (c : Counts) (f : List ℕ) (r : Result Counts Refused) (u : Tables) : Type 0 where
   pub answer : counts_answer r ≡ count_of c f
   pub after : u ≡ take_into t c f

@@ -1,12 +1,13 @@
 -- THE MEANING OF READING A TEXT: lines of lower-case hexadecimal, one frame a line.
 -- Assumes nothing: these are definitions.
-use Rattle.std.specs.Prelude.{cond, List, [], ◌∷◌, map, ◌≡◌, ℕ, suc, ◌+◌, drop, eqb}
+use Rattle.std.specs.Prelude.{Result, cond, List, [], ◌∷◌, map, ◌≡◌, ℕ, suc, ◌+◌, drop, eqb}
 use Rattle.meaning.specs.Refusals.{Answer}
+use Rattle.kinds.specs.declared.refusal.Refused.{Refused}
 use Rattle.frames.specs.Order.{Input, nothing}
 use Rattle.frames.specs.Lines.{line_ok, bytes_of}
 use Rattle.frames.specs.Tables.{Tables, Sized}
 use Rattle.frames.specs.Reading.{read_from, held}
-use Rattle.frames.specs.declared.count.Reading.{Reading}
+use Rattle.frames.specs.declared.count.Counts.{Counts}
 
 abbrev pub line_feed : ℕ
 line_feed = 0x0a
@@ -43,6 +44,6 @@ unfoldable pub end_at : List ℕ → ℕ → ℕ
 end_at t at = at + first_end (drop at t)
 
 -- what `fill_text` gives, with the tables as it leaves them
-pub record FillsText (t : List ℕ) (r : Reading) (u : Tables) : Type 0 where
+pub record FillsText (t : List ℕ) (r : Result Counts Refused) (u : Tables) : Type 0 where
   pub answer : held u r ≡ reading_text t
   pub sized : Sized u

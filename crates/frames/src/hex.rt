@@ -6,20 +6,10 @@ ghost use Rattle.frames.specs.Lines.{is_digit, digit_of, all_digits, line_ok, by
 // 15 bytes, and the children of a node frame with 255 of them.
 pub const LONGEST_FRAME: usize = 525;
 
-#[derive(Drop)]
-pub enum Unhexed {
-    Malformed,
-    Bytes(usize),
-}
-
 fn is_digit(b: u8) -> bool
     ensures { result ≡ is_digit b }
 {
-    match b {
-        b'0'..=b'9' => true,
-        b'a'..=b'f' => true,
-        _ => false,
-    }
+    matches!(b, b'0'..=b'9' | b'a'..=b'f')
 }
 
 fn digit(b: u8) -> u8
@@ -39,27 +29,13 @@ fn pair(a: u8, b: u8) -> u8
 fn all_digits(line: &[u8]) -> bool
     ensures { result ≡ all_digits line.now }
 {
-    for i in 0..line.len() {
-        if !is_digit(line[i]) {
-            return false;
-        }
-    }
-    true
+    line.iter().all(|&b| is_digit(b))
 }
 
 fn is_line(line: &[u8]) -> bool
     ensures { result ≡ line_ok line.now }
 {
-    if line.len() == 0 {
-        return false;
-    }
-    if 2 * LONGEST_FRAME < line.len() {
-        return false;
-    }
-    if line.len() % 2 != 0 {
-        return false;
-    }
-    all_digits(line)
+    line.len() != 0 && line.len() <= 2 * LONGEST_FRAME && line.len() % 2 == 0 && all_digits(line)
 }
 
 fn decode(line: &[u8], out: &mut [u8; LONGEST_FRAME])
@@ -72,14 +48,14 @@ fn decode(line: &[u8], out: &mut [u8; LONGEST_FRAME])
     }
 }
 
-// The bytes of a line, at the front of `out`, and how many. Where it is malformed, `out` has not changed.
-pub fn unhex(line: &[u8], out: &mut [u8; LONGEST_FRAME]) -> Unhexed
+// The bytes of a line, at the front of `out`, and how many. None where it is malformed, and `out` has not changed.
+pub fn unhex(line: &[u8], out: &mut [u8; LONGEST_FRAME]) -> Option<usize>
     requires { length out.old ≡ longest_frame }
     ensures { Unhexes line.now result out.old out.new }
 {
     if !is_line(line) {
-        return Unhexed::Malformed;
+        return None;
     }
     decode(line, out);
-    Unhexed::Bytes(line.len() / 2)
+    Some(line.len() / 2)
 }

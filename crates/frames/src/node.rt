@@ -31,12 +31,6 @@ pub struct Node {
     pub magnitude: u64,
 }
 
-#[derive(Drop)]
-pub enum NodeRead {
-    Malformed,
-    Read(Node),
-}
-
 fn wide(x: u16) -> u64
     ensures { result ≡ x }
 {
@@ -57,16 +51,7 @@ fn u64_at(f: &[u8], at: usize) -> u64
 fn head_ok(kind: u8, next: u8, id: u16) -> bool
     ensures { result ≡ head_ok kind next id }
 {
-    if !Kind::is_node_kind(kind) {
-        return false;
-    }
-    if 1 < next {
-        return false;
-    }
-    if Kind::carries_id(kind) {
-        return true;
-    }
-    id == 0
+    Kind::is_node_kind(kind) && next <= 1 && (Kind::carries_id(kind) || id == 0)
 }
 
 // The length of a node frame.
@@ -84,14 +69,11 @@ fn node_size(kind: u8, count: u8) -> usize
 fn literal_ok(kind: u8, sign: u8, magnitude: u64) -> bool
     ensures { result ≡ literal_ok kind sign magnitude }
 {
-    if 1 < sign {
-        return false;
-    }
     let l = Literal {
         negative: sign == 1,
-        magnitude: magnitude,
+        magnitude,
     };
-    l.is_allowed(kind)
+    sign <= 1 && l.is_allowed(kind)
 }
 
 fn child_of(f: &[u8], count: u8, k: usize) -> u16
@@ -129,36 +111,37 @@ fn magnitude_of(f: &[u8], kind: u8, count: u8) -> u64
     }
 }
 
-pub fn node_frame(f: &[u8]) -> NodeRead
+// None of a frame that is malformed.
+pub fn node_frame(f: &[u8]) -> Option<Node>
     ensures { node_answer result ≡ node_of f.now }
 {
     if f.len() < HEAD_SIZE {
-        return NodeRead::Malformed;
+        return None;
     }
     let kind = f[1];
     let next = f[2];
     let id = u16_at(f, 3);
     let count = f[5];
     if !head_ok(kind, next, id) {
-        return NodeRead::Malformed;
+        return None;
     }
     if f.len() != node_size(kind, count) {
-        return NodeRead::Malformed;
+        return None;
     }
     let sign = sign_of(f, kind, count);
     let magnitude = magnitude_of(f, kind, count);
     if !literal_ok(kind, sign, magnitude) {
-        return NodeRead::Malformed;
+        return None;
     }
-    NodeRead::Read(Node {
-        kind: kind,
-        next: next,
-        id: id,
-        count: count,
+    Some(Node {
+        kind,
+        next,
+        id,
+        count,
         c0: child_of(f, count, 0),
         c1: child_of(f, count, 1),
         c2: child_of(f, count, 2),
-        sign: sign,
-        magnitude: magnitude,
+        sign,
+        magnitude,
     })
 }

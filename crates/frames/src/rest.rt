@@ -18,12 +18,6 @@ pub struct Expression {
     pub flags: u8,
 }
 
-#[derive(Drop)]
-pub enum ExpressionRead {
-    Malformed,
-    Read(Expression),
-}
-
 #[derive(Clone, Copy)]
 pub struct Request {
     pub expression: u16,
@@ -31,40 +25,27 @@ pub struct Request {
     pub muladd: u8,
 }
 
-#[derive(Drop)]
-pub enum RequestRead {
-    Malformed,
-    Read(Request),
-}
-
-pub fn expression_frame(f: &[u8]) -> ExpressionRead
+// None of a frame that is malformed.
+pub fn expression_frame(f: &[u8]) -> Option<Expression>
     ensures { expression_answer result ≡ expression_of f.now }
 {
-    if f.len() != EXPRESSION_SIZE {
-        return ExpressionRead::Malformed;
+    if f.len() != EXPRESSION_SIZE || MOST_FLAGS < f[3] {
+        return None;
     }
-    if MOST_FLAGS < f[3] {
-        return ExpressionRead::Malformed;
-    }
-    ExpressionRead::Read(Expression {
+    Some(Expression {
         root: u16_at(f, 1),
         flags: f[3],
     })
 }
 
-pub fn request_frame(f: &[u8]) -> RequestRead
+// None of a frame that is malformed.
+pub fn request_frame(f: &[u8]) -> Option<Request>
     ensures { request_answer result ≡ request_of f.now }
 {
-    if f.len() != REQUEST_SIZE {
-        return RequestRead::Malformed;
+    if f.len() != REQUEST_SIZE || 1 < f[3] || 1 < f[4] {
+        return None;
     }
-    if 1 < f[3] {
-        return RequestRead::Malformed;
-    }
-    if 1 < f[4] {
-        return RequestRead::Malformed;
-    }
-    RequestRead::Read(Request {
+    Some(Request {
         expression: u16_at(f, 1),
         prime: f[3],
         muladd: f[4],

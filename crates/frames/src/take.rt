@@ -3,13 +3,14 @@ ghost use Rattle.std.specs.Prelude.{◌≡◌};
 ghost use Rattle.frames.specs.Frames.{frame_answer};
 ghost use Rattle.frames.specs.Tables.{tables, Room, put_all, Takes};
 
-use crate::count::{Counts, EXPRESSION_LIMIT, NODE_LIMIT, REQUEST_LIMIT, Reading, placed};
+use crate::count::{Counts, EXPRESSION_LIMIT, NODE_LIMIT, REQUEST_LIMIT, placed};
 use crate::frame::{Frame, frame_of};
 use crate::tables::{NODE_WORDS, put_expression, put_node, put_request};
+use kinds::refusal::Refused;
 
 // What a frame brings, stored after those that `c` counts.
 fn store(
-    x: Frame,
+    x: Option<Frame>,
     c: Counts,
     nodes: &mut [u64; NODE_WORDS],
     literals: &mut [u64; NODE_LIMIT],
@@ -20,10 +21,10 @@ fn store(
     ensures { tables nodes.new literals.new expressions.new requests.new ≡ put_all (tables nodes.old literals.old expressions.old requests.old) c (frame_answer x) }
 {
     match x {
-        Frame::Malformed => {}
-        Frame::Node(n) => put_node(nodes, literals, c.nodes, n),
-        Frame::Expression(e) => put_expression(expressions, c.expressions, e),
-        Frame::Request(q) => put_request(requests, c.requests, q),
+        None => {}
+        Some(Frame::Node(n)) => put_node(nodes, literals, c.nodes, n),
+        Some(Frame::Expression(e)) => put_expression(expressions, c.expressions, e),
+        Some(Frame::Request(q)) => put_request(requests, c.requests, q),
     }
 }
 
@@ -35,16 +36,11 @@ pub fn take(
     literals: &mut [u64; NODE_LIMIT],
     expressions: &mut [u64; EXPRESSION_LIMIT],
     requests: &mut [u64; REQUEST_LIMIT],
-) -> Reading
+) -> Result<Counts, Refused>
     ensures { Takes (tables nodes.old literals.old expressions.old requests.old) c f.now result (tables nodes.new literals.new expressions.new requests.new) }
 {
     let x = frame_of(f);
-    match placed(x, f, c) {
-        Reading::Malformed(b) => Reading::Malformed(b),
-        Reading::Full(b) => Reading::Full(b),
-        Reading::Read(d) => {
-            store(x, c, nodes, literals, expressions, requests);
-            Reading::Read(d)
-        }
-    }
+    let d = placed(x, f, c)?;
+    store(x, c, nodes, literals, expressions, requests);
+    Ok(d)
 }

@@ -3,22 +3,19 @@ ghost use Rattle.std.specs.Prelude.{◌≡◌, ◌<◌, length};
 ghost use Rattle.frames.specs.Tables.{tables, Sized, Takes};
 ghost use Rattle.frames.specs.Text.{line_frame, end_at, FillsText};
 
-use crate::count::{Blame, Counts, EXPRESSION_LIMIT, NODE_LIMIT, REQUEST_LIMIT, Reading};
-use crate::hex::{LONGEST_FRAME, Unhexed, unhex};
+use crate::count::{Counts, EXPRESSION_LIMIT, NODE_LIMIT, REQUEST_LIMIT};
+use crate::hex::{LONGEST_FRAME, unhex};
 use crate::tables::NODE_WORDS;
 use crate::take::take;
+use kinds::refusal::{Refusal, Refused};
 
 // Where the line that is at an index ends: at its line feed, or with the text.
 pub fn line_end(text: &[u8], at: usize) -> usize
     requires { at < length text.now }
     ensures { result ≡ end_at text.now at }
 {
-    for i in at..text.len() {
-        if text[i] == b'\n' {
-            return i;
-        }
-    }
-    text.len()
+    let line = &text[at..];
+    at + line.iter().position(|&b| b == b'\n').unwrap_or(line.len())
 }
 
 // The frame of a line, after those that `c` counts. Where it is refused, no table has changed.
@@ -29,14 +26,12 @@ pub fn take_line(
     literals: &mut [u64; NODE_LIMIT],
     expressions: &mut [u64; EXPRESSION_LIMIT],
     requests: &mut [u64; REQUEST_LIMIT],
-) -> Reading
+) -> Result<Counts, Refused>
     ensures { Takes (tables nodes.old literals.old expressions.old requests.old) c (line_frame line.now) result (tables nodes.new literals.new expressions.new requests.new) }
 {
     let mut bytes = [0u8; LONGEST_FRAME];
-    match unhex(line, &mut bytes) {
-        Unhexed::Malformed => Reading::Malformed(Blame::Nothing),
-        Unhexed::Bytes(n) => take(&bytes[..n], c, nodes, literals, expressions, requests),
-    }
+    let n = unhex(line, &mut bytes).ok_or(Refusal::Malformed)?;
+    take(&bytes[..n], c, nodes, literals, expressions, requests)
 }
 
 // Reads into the tables. Where a line is refused, those before it stand in them, and none after it is looked at.
@@ -46,30 +41,17 @@ pub fn fill_text(
     literals: &mut [u64; NODE_LIMIT],
     expressions: &mut [u64; EXPRESSION_LIMIT],
     requests: &mut [u64; REQUEST_LIMIT],
-) -> Reading
+) -> Result<Counts, Refused>
     requires { Sized (tables nodes.old literals.old expressions.old requests.old) }
     ensures { FillsText text.now result (tables nodes.new literals.new expressions.new requests.new) }
 {
-    let mut c = Counts {
-        nodes: 0,
-        expressions: 0,
-        requests: 0,
-    };
+    let mut c = Counts::default();
     let mut at: usize = 0;
+    // No `for`: each line says how far the next one is.
     while at < text.len() {
         let end = line_end(text, at);
-        match take_line(&text[at..end], c, nodes, literals, expressions, requests) {
-            Reading::Malformed(b) => {
-                return Reading::Malformed(b);
-            }
-            Reading::Full(b) => {
-                return Reading::Full(b);
-            }
-            Reading::Read(d) => {
-                c = d;
-            }
-        }
+        c = take_line(&text[at..end], c, nodes, literals, expressions, requests)?;
         at = end + 1;
     }
-    Reading::Read(c)
+    Ok(c)
 }

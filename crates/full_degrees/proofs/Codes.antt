@@ -21,15 +21,9 @@ module _ (a b : ℕ) where
   times_none h = sym (ap (λ c. cond c no_degree (min 18 (a + b))) (lt-ltb 18 (max a b) h))
 
   module _ (h : max a b ≤ 18) where
-    times-by : times_code a b ≡ min 18 (a + b)
+    pub times-by : min 18 (a + b) ≡ times_code a b
     unfolding times_code
-    times-by = ap (λ c. cond c no_degree (min 18 (a + b))) (le-ltb 18 (max a b) h)
-
-    pub times_cap : 18 < a + b → 18 ≡ times_code a b
-    times_cap l = let z : 18 ≡ min 18 (a + b) = omega arith in z ∙ sym times-by
-
-    pub times-sum : a + b ≤ 18 → a + b ≡ times_code a b
-    times-sum l = let z : a + b ≡ min 18 (a + b) = omega arith in z ∙ sym times-by
+    times-by = sym (ap (λ c. cond c no_degree (min 18 (a + b))) (le-ltb 18 (max a b) h))
 
     pub times-fits : a + b < 256
     times-fits = omega arith
@@ -54,7 +48,7 @@ pub times-is : (a b : Option ℕ) → times_code (coded a) (coded b) ≡ coded (
 times-is none none = sym (times_none no_degree no_degree (omega arith))
 times-is none (some b) = sym (times_none no_degree (min 18 b) (omega arith))
 times-is (some a) none = sym (times_none (min 18 a) no_degree (omega arith))
-times-is (some a) (some b) = times-by (min 18 a) (min 18 b) (omega arith) ∙ omega arith
+times-is (some a) (some b) = sym (times-by (min 18 a) (min 18 b) (omega arith)) ∙ omega arith
 
 -- ── leaves ───────────────────────────────────────────────────────────────────
 module _ (k : ℕ) where

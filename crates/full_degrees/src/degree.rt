@@ -1,5 +1,6 @@
-// Full degrees as bytes, and what operations make of them.
-ghost use Rattle.std.specs.Prelude.{◌≡◌, max};
+// Full degrees as bytes, and what operations make of them. A degree that is not there is a byte too, since the table has one for each of 4,096 nodes and stands on the
+// stack: an Option would take twice as much.
+ghost use Rattle.std.specs.Prelude.{◌≡◌};
 ghost use Rattle.full_degrees.specs.Coded.{times_code, leaf_code};
 
 use kinds::kind::Kind;
@@ -13,27 +14,14 @@ pub const NO_DEGREE: u8 = 255;
 // Not computed yet.
 pub const UNKNOWN: u8 = 254;
 
-pub fn larger(a: u8, b: u8) -> u8
-    ensures { result ≡ max a b }
-{
-    if a < b {
-        return b;
-    }
-    a
-}
-
 // Of a product, from those of its factors.
 pub fn times(a: u8, b: u8) -> u8
     ensures { result ≡ times_code a b }
 {
-    if CAP < larger(a, b) {
+    if CAP < a.max(b) {
         return NO_DEGREE;
     }
-    let sum = a + b;
-    if CAP < sum {
-        return CAP;
-    }
-    sum
+    CAP.min(a + b)
 }
 
 // Of a leaf that names no expression.

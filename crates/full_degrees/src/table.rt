@@ -1,7 +1,7 @@
 // The full degree of every node, each computed once: a node after its children, an exp leaf after the body of its expression.
 ghost use Rattle.full_degrees.specs.Filling.{TreeAsked, NodeGiven, TreeGiven, FillAsked, FillGiven};
 
-use crate::degree::{UNKNOWN, larger, leaf_degree, times};
+use crate::degree::{UNKNOWN, leaf_degree, times};
 use frames::count::{EXPRESSION_LIMIT, NODE_LIMIT};
 use frames::tables::{NODE_WORDS, kind_at};
 use kinds::kind::Kind;
@@ -49,7 +49,7 @@ fn node_degree(
         Kind::ADD..=Kind::SUB => {
             let a = tree_degree(nodes, expressions, full, levels, child(nodes, i, 0));
             let b = tree_degree(nodes, expressions, full, levels, child(nodes, i, 1));
-            larger(1, larger(a, b))
+            1u8.max(a.max(b))
         }
         Kind::MUL => {
             let a = tree_degree(nodes, expressions, full, levels, child(nodes, i, 0));
@@ -60,11 +60,11 @@ fn node_degree(
             let a = tree_degree(nodes, expressions, full, levels, child(nodes, i, 0));
             let b = tree_degree(nodes, expressions, full, levels, child(nodes, i, 1));
             let c = tree_degree(nodes, expressions, full, levels, child(nodes, i, 2));
-            larger(times(a, b), c)
+            times(a, b).max(c)
         }
         Kind::ADDC..=Kind::NEG => {
             let a = tree_degree(nodes, expressions, full, levels, child(nodes, i, 0));
-            larger(1, a)
+            1u8.max(a)
         }
         _ => leaf_degree(kind),
     }

@@ -9,7 +9,8 @@ use Rattle.context.specs.Tables.{fresh_bytes}
 use Rattle.codegen.specs.Said.{Said}
 use Rattle.codegen.specs.Written.{Stands}
 use Rattle.codegen.specs.Serving.{Serves}
-use Rattle.codegen.specs.Building.{Lists, Builds, StandsBuilt, Sizes, sizes, forest_read}
+use Rattle.codegen.specs.Building.{Lists, Builds, StandsBuilt, sizes, forest_read}
+use Rattle.codegen.specs.declared.build.Sizes.{Sizes}
 use Rattle.codegen.specs.declared.asked.Wanted.{Wanted}
 use Rattle.evaluator_run.specs.Evaluation.{Valued, out_after}
 use Rattle.evaluator.specs.Answer.{Evaluates}

@@ -7,8 +7,7 @@ use Rattle.dimensions.specs.Answers.{first_dim_x}
 use Rattle.meaning.specs.Refusals.{Answer, done, answer_no, ◌then◌}
 use Rattle.frames.specs.Reading.{reading}
 use Rattle.planning.specs.Planning.{Planned, Goes}
-use Rattle.planning.specs.Answers.{unplanned_says}
-use Rattle.planning.specs.declared.answer.Unplanned.{Unplanned}
+use Rattle.planning.specs.Answers.{Unplanned, unplanned_says}
 use Rattle.plan_walks.specs.Walks.{Walked, good_segment, lists_after}
 use Rattle.plan_walks.specs.Fix.{is_n, fix_by}
 use Rattle.plan_walks.specs.Query.{query_by}

@@ -3,7 +3,8 @@
 use Rattle.std.specs.Prelude.{ℕ, ◌≡◌, List, length, set}
 use Rattle.meaning.specs.Refusals.{Answer, done, refused, answer_no, ◌then◌}
 use Rattle.meaning.specs.Building.{Segment}
-use Rattle.requests.specs.Whole.{Totals, totals, list_after}
+use Rattle.requests.specs.Whole.{totals, list_after}
+use Rattle.requests.specs.declared.whole.Totals.{Totals}
 use Rattle.requests.specs.Runs.{BytesRun}
 
 -- two totals written where the run was done

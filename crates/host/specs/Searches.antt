@@ -1,32 +1,26 @@
 -- THE EXPORTED SEARCH: the answer is the one that `degree_search` defines, told as its number, with the set, q and the visits.
 -- Assumes nothing: these are definitions.
-use Rattle.std.specs.Prelude.{ℕ, ◌≡◌, List, [], set}
+use Rattle.std.specs.Prelude.{ℕ, ◌≡◌, List, [], set, Result}
 use Rattle.meaning.specs.Refusals.{Answer, done, refused, answer_no}
 use Rattle.frames.specs.Reading.{reading}
 use Rattle.search_meaning.specs.Search.{Choice}
 use Rattle.degree_search.specs.Choosing.{searched_says, SetAfter}
-use Rattle.degree_search.specs.Searching.{asking, Runs, outcome_says}
-use Rattle.degree_search.specs.declared.choose.Searched.{Searched}
-use Rattle.degree_search.specs.declared.search.Outcome.{Outcome}
+use Rattle.degree_search.specs.Searching.{asking, Runs}
+use Rattle.degree_search.specs.declared.choose.Found.{Found}
+use Rattle.kinds.specs.declared.refusal.Refused.{Refused}
 use Rattle.sets.specs.Members.{members}
 
--- THE NUMBER OF Searched AND OF Outcome, which no set changes
-abbrev pub searched_no : Searched → ℕ
+-- THE NUMBER OF A SEARCH'S ANSWER, which no set changes
+abbrev pub searched_no : Result Found Refused → ℕ
 searched_no r = answer_no (searched_says r [])
-
-abbrev pub outcome_no : Outcome → ℕ
-outcome_no r = answer_no (outcome_says r [])
 
 -- q and the visits, written where something was found
 abbrev pub choice_told : Answer Choice → List ℕ → List ℕ
 choice_told (done c) o = set (set o 0 c.q) 1 c.visits
 choice_told (refused k i) o = o
 
-abbrev pub found_told : Searched → List ℕ → List ℕ
+abbrev pub found_told : Result Found Refused → List ℕ → List ℕ
 found_told r o = choice_told (searched_says r []) o
-
-abbrev pub ran_told : Outcome → List ℕ → List ℕ
-ran_told r o = choice_told (outcome_says r []) o
 
 -- the set is the members that stand in the lent words; on a refusal they are what they were
 abbrev pub set_is : Answer Choice → List ℕ → Type 0

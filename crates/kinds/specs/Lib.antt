@@ -11,3 +11,5 @@ pub mod Records
 pub mod BigEndian
 pub mod References
 pub mod Steps
+pub mod Answers
+pub mod AnswerLaws

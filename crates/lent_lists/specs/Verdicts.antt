@@ -1,6 +1,9 @@
 -- Whether fixing goes on, or which refusal it meets.
 -- Assumes nothing: these are definitions.
-use Rattle.std.specs.Prelude.{ℕ, Bool, cond}
+use Rattle.std.specs.Prelude.{ℕ, Bool, cond, Result}
+use Rattle.kinds.specs.Answers.{plain_answer_of}
+use Rattle.kinds.specs.declared.refusal.Refusal.{Refusal}
+use Rattle.meaning.specs.Refusals.{answer_no}
 
 pub data Verdict : Type 0 where
   fine malformed not_there no_rule full : Verdict
@@ -12,6 +15,10 @@ verdict_no malformed = 1
 verdict_no not_there = 3
 verdict_no no_rule = 10
 verdict_no full = 9
+
+-- THE NUMBER OF A WALK'S ANSWER: document 01's, and 0 where nothing is refused
+abbrev pub judged_no : Result Unit Refusal → ℕ
+judged_no r = answer_no (plain_answer_of r)
 
 -- the first refusal of two
 abbrev pub first_of : Verdict → Verdict → Verdict

@@ -1,4 +1,6 @@
-// Lists of steps that a caller lends: are their records well formed, and has each a step?
+// Lists of steps that a caller lends: are their records well formed, has each a step, and the walks over their references.
 #![tactic(auto)]
 
+pub mod judge;
 pub mod records;
+pub mod rewrite;

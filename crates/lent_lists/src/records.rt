@@ -9,21 +9,12 @@ use lists::records::good_list;
 pub fn good_lists(first: &[u8], i: &[u8], last: &[u8]) -> bool
     ensures { result ≡ good_lists first.now i.now last.now }
 {
-    if !good_list(first) {
-        return false;
-    }
-    if !good_list(i) {
-        return false;
-    }
-    good_list(last)
+    good_list(first) && good_list(i) && good_list(last)
 }
 
 // Is its step byte known, and has it the sources that the step needs?
 pub fn has_step(op: u8, count: u8) -> bool
     ensures { result ≡ runs_by op count }
 {
-    if StepOp::is_step(op) {
-        return StepOp::sources_needed(op) <= count;
-    }
-    false
+    StepOp::is_step(op) && StepOp::sources_needed(op) <= count
 }

@@ -5,8 +5,7 @@ use mathlib.Core.Path.{◌≡◌, sym, subst}
 use mathlib.Core.List.{List}
 use lib.ListN.{length}
 use Rattle.frames.specs.Tables.{Tables}
-use Rattle.requests.specs.Runs.{outcome_says}
-use Rattle.requests.specs.declared.run.Outcome.{Outcome}
+use Rattle.requests.specs.Runs.{Outcome, outcome_says}
 use Rattle.transcript.specs.Concluding.{Concluded}
 use Rattle.transcript.specs.Lines.{shown_of, LineAsked}
 use Rattle.transcript.specs.Transcript.{line-asked}

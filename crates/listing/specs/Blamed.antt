@@ -3,7 +3,7 @@
 use Rattle.std.specs.Prelude.{ℕ}
 use Rattle.std.proofs.Math.Option.{Option, none}
 use Rattle.meaning.specs.Refusals.{Answer, done, refused}
-use Rattle.requests.specs.Whole.{Totals}
+use Rattle.requests.specs.declared.whole.Totals.{Totals}
 
 abbrev pub blamed : Answer Totals → Option ℕ
 blamed (done t) = none

@@ -13,10 +13,10 @@ ghost use Rattle.transcript.specs.Lines.{LineAsked};
 use blame::blame_of;
 use console::page::flush;
 use console::read::read_all;
-use feed::feed::{Feeding, LINE_ROOM, Place};
-use frames::count::{Blame, EXPRESSION_LIMIT, NODE_LIMIT, REQUEST_LIMIT};
+use feed::feed::{LINE_ROOM, Place};
+use frames::count::{EXPRESSION_LIMIT, NODE_LIMIT, REQUEST_LIMIT};
 use frames::tables::NODE_WORDS;
-use kinds::refusal::{FULL, MALFORMED, NONE};
+use kinds::refusal::NONE;
 use kinds::step::STEP_SIZE;
 use print::{PAGE_SIZE, print_blocks};
 use transcript::conclude::conclude;
@@ -56,7 +56,7 @@ fn print_list(
     flush(rt, &page, used);
 }
 
-fn print_refusal(rt: &impl Print, number: u8, blame: Blame) {
+fn print_refusal(rt: &impl Print, number: u8, blame: Option<usize>) {
     let mut page = [0u8; SENTENCE_ROOM];
     let used = put_refusal(&mut page, 0, number, blame);
     flush(rt, &page, used);
@@ -98,9 +98,8 @@ fn main(rt: HostRuntime) {
         &mut expressions,
         &mut requests,
     ) {
-        Feeding::Malformed(b) => print_refusal(&rt, MALFORMED, b),
-        Feeding::Full(b) => print_refusal(&rt, FULL, b),
-        Feeding::Fed(p) => answer(
+        Err(f) => print_refusal(&rt, f.refusal.into(), f.node),
+        Ok(p) => answer(
             &rt,
             p,
             &line,

@@ -16,10 +16,7 @@ fn good_reference(list: &[u8], at: usize) -> bool
     requires { at + reference_size ≤ length list.now }
     ensures { result ≡ good_reference (ref_at list.now at) }
 {
-    if Kind::is_reference(list[at]) {
-        return list[at + PRIME] <= LAST_PRIME;
-    }
-    false
+    Kind::is_reference(list[at]) && list[at + PRIME] <= LAST_PRIME
 }
 
 // A source that the record does not count is not looked at.
@@ -28,28 +25,11 @@ fn good_record(list: &[u8], at: usize) -> bool
     ensures { result ≡ good_record (step_at list.now at) }
 {
     let count = list[at + COUNT];
-    if SOURCES < count {
-        return false;
-    }
-    if !good_reference(list, at + DEST) {
-        return false;
-    }
-    if count == 0 {
-        return true;
-    }
-    if !good_reference(list, at + S0) {
-        return false;
-    }
-    if count == 1 {
-        return true;
-    }
-    if !good_reference(list, at + S1) {
-        return false;
-    }
-    if count == 2 {
-        return true;
-    }
-    good_reference(list, at + S2)
+    count <= SOURCES
+        && good_reference(list, at + DEST)
+        && (count < 1 || good_reference(list, at + S0))
+        && (count < 2 || good_reference(list, at + S1))
+        && (count < 3 || good_reference(list, at + S2))
 }
 
 pub fn good_list(list: &[u8]) -> bool
@@ -58,8 +38,7 @@ pub fn good_list(list: &[u8]) -> bool
     if list.len() % STEP_SIZE != 0 {
         return false;
     }
-    let count = list.len() / STEP_SIZE;
-    for k in 0..count {
+    for k in 0..list.len() / STEP_SIZE {
         if !good_record(list, STEP_SIZE * k) {
             return false;
         }

@@ -4,7 +4,6 @@ ghost use Rattle.pool.specs.Entries.{entries_in};
 ghost use Rattle.map_records.specs.Tables.{DimAsked, DimGiven, BothAsked, BothGiven};
 
 use exp_dims::dim::{UNKNOWN, get_exp_dim};
-use exp_dims::leaf::larger;
 use frames::count::EXPRESSION_LIMIT;
 use frames::tables::NODE_WORDS;
 
@@ -37,5 +36,5 @@ pub fn lookup_dim(
     let mut known = [UNKNOWN; EXPRESSION_LIMIT];
     let a = get_exp_dim(nodes, expressions, table, dims, &mut known, f);
     let b = get_exp_dim(nodes, expressions, table, dims, &mut known, t);
-    larger(a, b)
+    a.max(b)
 }

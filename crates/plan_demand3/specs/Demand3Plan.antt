@@ -20,9 +20,8 @@ use Rattle.lists.specs.Decoding.{steps_from}
 use Rattle.fixed_meaning.specs.Fixing.{Plan, fix_segment}
 use Rattle.fixed_meaning.specs.Demand3Fixed.{ComputesFixed}
 use Rattle.evaluator_cells.specs.Literals.{brought_at}
-use Rattle.plan_walks.specs.Walks.{walk_says}
+use Rattle.plan_walks.specs.Walks.{Walk, walk_says}
 use Rattle.plan_walks.specs.Fix.{is_n, FixIs}
-use Rattle.plan_walks.specs.declared.walk.Walk.{Walk}
 use Rattle.plan_demand3.specs.Conditions.{IntermediatesDiffer, NoLeafReadsIntermediate, plan_for}
 
 -- ── the statement ────────────────────────────────────────────────────────────

@@ -14,10 +14,9 @@ use Rattle.map_records.specs.Mapping.{mapped}
 use Rattle.lent_lists.specs.Verdicts.{Verdict, fine, malformed, not_there, no_rule, full}
 use Rattle.fixing.specs.ProverCode.{temporaries, prover_verdict, list_after}
 use Rattle.planning.specs.Planning.{Planned, planned, Plans}
-use Rattle.plan_walks.specs.Walks.{good_segment, Walked, ruled, walk_says, lists_after}
+use Rattle.plan_walks.specs.Walks.{Walk, good_segment, Walked, ruled, walk_says, lists_after}
 use Rattle.plan_walks.specs.Cms.{cms_of}
 use Rattle.plan_walks.specs.Fix.{is_n, rules_in, fix_with, fix_by, FixIs}
-use Rattle.plan_walks.specs.declared.walk.Walk.{Walk}
 use Rattle.plan_exactly.specs.Known.{known}
 
 -- ---- a plan that is answered

@@ -22,9 +22,8 @@ use Rattle.plan_tables.specs.Tables.{trees}
 use Rattle.plan_tables.specs.Sizes.{trees-size}
 use Rattle.planning.specs.Planning.{Planned, Plans}
 use Rattle.planning.specs.Ways.{Way}
-use Rattle.plan_walks.specs.Walks.{walk_says}
+use Rattle.plan_walks.specs.Walks.{Walk, walk_says}
 use Rattle.plan_walks.specs.Query.{query_with, query_by, QueryIs}
-use Rattle.plan_walks.specs.declared.walk.Walk.{Walk}
 use Rattle.plan_exactly.specs.Known.{known}
 use Rattle.plan_exactly.specs.Numbers.{Drawn, by-verdict, walk_refused, walk-alone, walk-done, no-way_10}
 use Rattle.plan_exactly.specs.Small.{SmallIn, mapped-small}

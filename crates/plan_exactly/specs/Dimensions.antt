@@ -14,9 +14,8 @@ use Rattle.dimensions.specs.Conditions.{StepsRefused, all_records}
 use Rattle.dimensions.specs.Exactly.{exactly_3, exactly_10, exactly_12}
 use Rattle.planning.specs.Planning.{Planned, Plans}
 use Rattle.planning.specs.Ways.{Way}
-use Rattle.plan_walks.specs.Walks.{walked, walk_says, WalkIs}
+use Rattle.plan_walks.specs.Walks.{Walk, walked, walk_says, WalkIs}
 use Rattle.plan_walks.specs.Dimension.{given_by, unblamed, dimension_with, dimension_by, DimensionIs, FirstIs}
-use Rattle.plan_walks.specs.declared.walk.Walk.{Walk}
 use Rattle.plan_exactly.specs.Numbers.{Drawn, walk_refused, walk-alone, no-way_10}
 
 -- nothing is malformed, and the first step of the lists that is refused is refused so

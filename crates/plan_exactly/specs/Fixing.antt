@@ -14,10 +14,9 @@ use Rattle.map_records.specs.Mapping.{mapped}
 use Rattle.plan_tables.specs.Sizes.{cm-n-size, cm_2ns_size}
 use Rattle.planning.specs.Planning.{Planned, Plans}
 use Rattle.planning.specs.Ways.{Way}
-use Rattle.plan_walks.specs.Walks.{good_segment, walk_says}
+use Rattle.plan_walks.specs.Walks.{Walk, good_segment, walk_says}
 use Rattle.plan_walks.specs.Cms.{cms_of}
 use Rattle.plan_walks.specs.Fix.{is_n, rules_in, fix_with, fix_by, FixIs}
-use Rattle.plan_walks.specs.declared.walk.Walk.{Walk}
 use Rattle.plan_exactly.specs.Known.{known}
 use Rattle.plan_exactly.specs.Numbers.{Drawn, by-verdict, walk_refused, walk-alone, walk-done, no-way_10}
 

@@ -9,8 +9,7 @@ use Rattle.lent_lists.specs.Verdicts.{Verdict, fine, malformed, not_there, no_ru
 use Rattle.planning.specs.Planning.{Planned, Plans}
 use Rattle.planning.specs.Ways.{Way}
 use Rattle.planning.specs.Exactly.{Follows, exactly-gone}
-use Rattle.plan_walks.specs.Walks.{Walked, ruled, walk_says, WalkIs}
-use Rattle.plan_walks.specs.declared.walk.Walk.{Walk}
+use Rattle.plan_walks.specs.Walks.{Walk, Walked, ruled, walk_says, WalkIs}
 
 -- there is a plan for the frames s and the record b, and it meets a condition
 pub record Drawn (s b : List ℕ) (own : Bool) (C : Planned → Type 0) : Type 0 where

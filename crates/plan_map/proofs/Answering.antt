@@ -9,6 +9,9 @@ use native.Mathlib.Nat.{zero-add}
 use lib.ListN.{length, take, drop, replicate, length-append}
 use lib.Seq.{length-take-le}
 use Rattle.kinds.specs.Write.{write-is}
+use Rattle.std.specs.Prelude.{Ok, Err}
+use Rattle.kinds.specs.Answers.{refusing}
+use Rattle.kinds.specs.declared.refusal.Refusal.TheVariants as refusal
 use Rattle.meaning.specs.Refusals.{Refusal, Answer, done, refused, ◌then◌}
 use Rattle.pool.specs.Pool.{Pool}
 use Rattle.plans.specs.Plan.{n_bits, n_bits_ext}
@@ -25,22 +28,17 @@ use Rattle.plan_tables.specs.Gathered.{Fitting, columns_of}
 use Rattle.plan_tables.specs.Sizes.{cm-n-size, cm_2ns_size, mapped-columns, held-few}
 use Rattle.plan_tables.specs.Whole.{bits-few}
 use Rattle.planning.specs.Planning.{Planned, planned}
-use Rattle.planning.specs.Answers.{unplanned_says, FramesGiven}
+use Rattle.planning.specs.Answers.{Unplanned, Planning, unplanned_says, FramesGiven}
 use Rattle.planning.specs.Drawn.{Drawn}
 use Rattle.planning.specs.Laws.Argued.{reason, unplanned-then}
 use Rattle.planning.specs.Laws.Drawn.{pool_in, unplanned, answered}
 use Rattle.planning.specs.Laws.Known.{mapped-known}
-use Rattle.planning.specs.declared.answer.Unplanned.{Unplanned}
 use Rattle.planning.specs.declared.answer.Plan.{Plan}
-use Rattle.planning.specs.declared.answer.Planning.{Planning}
-use Rattle.planning.specs.declared.answer.Planning.TheVariants as planning
 use Rattle.plan_map.specs.Numbers.{rows_by, column_row, section_numbers, cm_numbers, expression_numbers, counts, map_numbers, map_bytes}
 use Rattle.plan_map.specs.Puts.{Puts, u16s-size, puts-next, puts-is, rows-size}
 use Rattle.plan_map.specs.Parts.{head_size, SectionsAsked, SectionsGiven, CmsAsked, CmsGiven, ExpressionsAsks}
-use Rattle.plan_map.specs.Whole.{map_by, out_after, Does, MapIs}
+use Rattle.plan_map.specs.Whole.{Mapping, map_by, out_after, Does, MapIs}
 use Rattle.plan_map.specs.Exactly.{by-no-room, by_room}
-use Rattle.plan_map.specs.declared.map.Mapping.{Mapping}
-use Rattle.plan_map.specs.declared.map.Mapping.TheVariants as mapping
 use Rattle.plan_map.proofs.Placing.{section-size}
 
 -- ---- how long the parts are
@@ -168,7 +166,7 @@ module _ {b : List ℕ} {p : Pool} {ss ds cs : List ℕ} {k : Plan} (d : Drawn b
           (ap₂ (λ (x y : List ℕ). x ++ y) (ap₂ (λ (x y : List ℕ). x ++ y) sections_are cms_are) (ap (expression_numbers b (mapped b p)) (sym d.expressions)))
           (puts-next (puts-next g h) i)
 
-      pub no_room : (out : List ℕ) → length out < head_size + 6 * k.records + 6 * cms + 4 * count + 2 * m → Does (map_by b (length out) (planned p (mapped b p))) out out mapping.Full
+      pub no_room : (out : List ℕ) → length out < head_size + 6 * k.records + 6 * cms + 4 * count + 2 * m → Does (map_by b (length out) (planned p (mapped b p))) out out (refusing refusal.Full)
       no_room out h =
           let z : Planned = planned p (mapped b p) in
           let over : length out < length (map_bytes b z) = omega (arith, map-size, h) in
@@ -177,7 +175,7 @@ module _ {b : List ℕ} {p : Pool} {ss ds cs : List ℕ} {k : Plan} (d : Drawn b
 
       pub all-put :
           {out o : List ℕ} {r : ℕ} → head_size + 6 * k.records + 6 * cms + 4 * count + 2 * m ≤ length out → Puts out 0 (map_numbers b (planned p (mapped b p))) o r
-          → Does (map_by b (length out) (planned p (mapped b p))) out o (mapping.Done r)
+          → Does (map_by b (length out) (planned p (mapped b p))) out o (Ok r)
       all-put {out} {o} {r} h g =
           let z : Planned = planned p (mapped b p) in
           let under : length (map_bytes b z) ≤ length out = omega (arith, map-size, h) in
@@ -218,7 +216,7 @@ module _ {b : List ℕ} {p : Pool} {ss ds cs : List ℕ} {k : Plan} (d : Drawn b
 -- ---- frames
 
 module _ {s b : List ℕ} {w x ss ds cs : List ℕ} {r : Planning} (g : FramesGiven s b true w x ss ds cs r) (out : List ℕ) where
-  pub unplanned-map : {u : Unplanned} → r ≡ planning.Refused u → MapIs s b out out (mapping.Unplanned u)
+  pub unplanned-map : {u : Unplanned} → r ≡ Err u → MapIs s b out out (Err u)
   unplanned-map {u} q =
       let what : Planned → Answer (List ℕ) = map_by b (length out) in
       let a : (g.answer then what) ≡ unplanned_says u = ap (λ (z : Answer Planned). z then what) (unplanned g q) ∙ unplanned-then u what in
@@ -227,13 +225,13 @@ module _ {s b : List ℕ} {w x ss ds cs : List ℕ} {r : Planning} (g : FramesGi
         answer = g.answer then what;
         goes = (g.answer, g.plans, refl);
         does = record {
-          says = sym (ap (λ (y : Answer (List ℕ)). y then λ bytes. done (length bytes)) a ∙ unplanned-then u (λ bytes. done (length bytes)));
+          says = sym (ap (λ (y : Answer (List ℕ)). y then λ bytes. done (length bytes)) a ∙ unplanned-then u (λ (bytes : List ℕ). done (length bytes)));
           room = sym (ap (out_after out) (a ∙ z.says (List ℕ)));
         };
       }
 
   pub planned-map :
-      {k : Plan} (q : r ≡ planning.Planned k) {out' : List ℕ} {y : Mapping} → Does (map_by b (length out) (planned (pool_in g) (mapped b (pool_in g)))) out out' y → MapIs s b out out' y
+      {k : Plan} (q : r ≡ Ok k) {out' : List ℕ} {y : Mapping} → Does (map_by b (length out) (planned (pool_in g) (mapped b (pool_in g)))) out out' y → MapIs s b out out' y
   planned-map q d = record {
     answer = map_by b (length out) (planned (pool_in g) (mapped b (pool_in g)));
     goes = (g.answer, g.plans, sym (ap (λ (z : Answer Planned). z then map_by b (length out)) (answered g q)));

@@ -13,7 +13,8 @@ use Rattle.sections.specs.Sums.{each, each-length}
 use Rattle.sections.specs.Sections.{mapping, known, section_count, width_count, widths, first_width, whole_width, third_width, well_formed, positions_from, position_of}
 use Rattle.sections.specs.Answer.{MappedIs, positions_after, widths_after}
 use Rattle.sections.specs.Exactly.{maps}
-use Rattle.sections.specs.declared.map_section.Mapped.{Mapped}
+use Rattle.std.specs.Prelude.{Result}
+use Rattle.kinds.specs.declared.refusal.Refusal.{Refusal}
 use Rattle.plan_tables.specs.Tables.{offset_count, offset_of, offsets_of}
 use Rattle.plan_map.specs.Numbers.{rows_by, offset_row, record_row, head_numbers, section_numbers}
 use Rattle.plan_map.specs.Puts.{Puts, puts-next, puts-is, rows-size, rows_same}
@@ -54,7 +55,7 @@ module _ {ss ds : List ℕ} {n : ℕ} {ps ws : List ℕ} (a : PlaceAsked ss ds n
   pub positions-taken : length (take n ps) ≡ n
   positions-taken = length-take-le n ps positions-room
 
-  pub placed : {ps' ws' : List ℕ} {r : Mapped} → MappedIs (take n ss) (take n ds) (take n ps) ps' ws ws' r → (rest : List ℕ) → PlaceGiven ss ds n (ps' ++ rest) ws'
+  pub placed : {ps' ws' : List ℕ} {r : Result (Unit {0}) Refusal} → MappedIs (take n ss) (take n ds) (take n ps) ps' ws ws' r → (rest : List ℕ) → PlaceGiven ss ds n (ps' ++ rest) ws'
   placed {ps'} {ws'} g rest = record { placed = take_at ps' rest n long ∙ is; wide = wide }
     where
       zeros : take n ps ≡ replicate n 0

@@ -10,8 +10,7 @@ use Rattle.frames.specs.Reading.{reading}
 use Rattle.planning.specs.Planning.{Planned, Plans}
 use Rattle.planning.specs.Exactly.{one-plan, one-gone}
 use Rattle.plan_map.specs.Numbers.{map_bytes}
-use Rattle.plan_map.specs.Whole.{map_by, map_says, out_after, MapIs}
-use Rattle.plan_map.specs.declared.map.Mapping.{Mapping}
+use Rattle.plan_map.specs.Whole.{map_by, Mapping, map_says, out_after, MapIs}
 
 -- ---- of a plan
 

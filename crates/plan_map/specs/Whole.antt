@@ -1,28 +1,29 @@
 -- WHAT `map` ANSWERS to frames, a plan's record and a lent room for bytes, and what the room holds after it.
 -- Assumes nothing: these are definitions.
-use Rattle.std.specs.Prelude.{ℕ, ◌≡◌, true, cond, List, ◌++◌, length, drop, leb}
+use Rattle.std.specs.Prelude.{ℕ, ◌≡◌, true, cond, List, ◌++◌, length, drop, leb, Result}
 use Rattle.std.proofs.Math.Option.{none}
 use Rattle.meaning.specs.Refusals.{Refusal, Answer, done, refused, ◌then◌}
+use Rattle.kinds.specs.Answers.{answer_of}
+use Rattle.kinds.specs.declared.refusal.Refused.{Refused}
 use Rattle.frames.specs.Reading.{reading}
 use Rattle.pool.specs.Pool.{Pool}
 use Rattle.map_records.specs.Mapping.{mapped}
 use Rattle.planning.specs.Planning.{Planned, planned, Goes}
-use Rattle.planning.specs.Answers.{unplanned_says}
 use Rattle.planning.specs.Drawn.{Drawn}
 use Rattle.planning.specs.declared.answer.Plan.{Plan}
 use Rattle.plan_map.specs.Numbers.{map_bytes}
-use Rattle.plan_map.specs.declared.map.Mapping.{Mapping}
-use Rattle.plan_map.specs.declared.map.Mapping.TheVariants as mapping
 
 -- THE BYTES OF A PLAN, or 9 where there is no room for all of them
 unfoldable pub map_by : List ℕ → ℕ → Planned → Answer (List ℕ)
 map_by b room z = cond (leb (length (map_bytes b z)) room) (done (map_bytes b z)) (refused Refusal.full none)
 
--- WHAT Mapping SAYS: how many bytes, or document 01's refusal
+-- how many bytes, or document 01's refusal
+abbrev pub Mapping : Type 0
+Mapping = Result ℕ Refused
+
+-- WHAT IT SAYS
 abbrev pub map_says : Mapping → Answer ℕ
-map_says (mapping.Unplanned u) = unplanned_says u
-map_says mapping.Full = refused Refusal.full none
-map_says (mapping.Done n) = done n
+map_says r = answer_of r
 
 -- the lent room after an answer: the bytes at its front; as it was on a refusal
 abbrev pub out_after : List ℕ → Answer (List ℕ) → List ℕ

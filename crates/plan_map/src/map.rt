@@ -4,20 +4,13 @@ ghost use Rattle.plan_map.specs.Whole.{PlannedAsked, PlannedGiven, MapIs};
 use crate::parts::{HEAD_SIZE, put_cms, put_expressions, put_sections};
 use frames::count::EXPRESSION_LIMIT;
 use frames::tables::NODE_WORDS;
+use kinds::refusal::{Refusal, Refused};
 use map_records::rest::CM_LIMIT;
 use plan_tables::columns::column_expressions;
-use planning::answer::{Plan, Planning, Unplanned};
+use planning::answer::Plan;
 use planning::frames_plan::plan_frames;
 use plans::layout::cm_count;
 use sections::map_section::RECORD_LIMIT;
-
-// How many bytes the answer has; or why there is no plan; or 9, where there is no room for all of them.
-#[derive(Clone, Copy)]
-pub enum Mapping {
-    Unplanned(Unplanned),
-    Full,
-    Done(usize),
-}
 
 // What each record, cm, temporary column and expression takes.
 const RECORD_SIZE: usize = 6;
@@ -36,7 +29,7 @@ fn map_planned(
     cmdims: &[u16],
     k: Plan,
     out: &mut [u8],
-) -> Mapping
+) -> Result<usize, Refused>
     requires { PlannedAsked plan.now sections.now dims.now cmdims.now k }
     ensures { PlannedGiven plan.now sections.now dims.now cmdims.now k out.old out.new result }
 {
@@ -51,16 +44,16 @@ fn map_planned(
         + COLUMN_SIZE * count
         + EXPRESSION_SIZE * m;
     if out.len() < size {
-        return Mapping::Full;
+        return Err(Refusal::Full.into());
     }
     let records = put_sections(plan, sections, dims, k, cms, count, out);
     let rest = put_cms(sections, cmdims, n, cms, out, records);
-    Mapping::Done(put_expressions(plan, sections, n, m, &columns, count, out, rest))
+    Ok(put_expressions(plan, sections, n, m, &columns, count, out, rest))
 }
 
-// Frames, each behind its length, and a plan's record. The answer's bytes, which specs/Numbers.antt lays out, stand at the front of `out`; on a refusal
-// nothing of it has changed.
-pub fn map(s: &[u8], plan: &[u8], out: &mut [u8]) -> Mapping
+// Frames, each behind its length, and a plan's record. The answer's bytes, which specs/Numbers.antt lays out, stand at the front of `out`, and it answers
+// how many they are: 9 where there is no room for all of them. On a refusal nothing of `out` has changed.
+pub fn map(s: &[u8], plan: &[u8], out: &mut [u8]) -> Result<usize, Refused>
     ensures { MapIs s.now plan.now out.old out.new result }
 {
     let mut nodes = [0u64; NODE_WORDS];
@@ -68,7 +61,7 @@ pub fn map(s: &[u8], plan: &[u8], out: &mut [u8]) -> Mapping
     let mut sections = [0u16; RECORD_LIMIT];
     let mut dims = [0u16; RECORD_LIMIT];
     let mut cmdims = [0u16; CM_LIMIT];
-    match plan_frames(
+    let k = plan_frames(
         s,
         plan,
         true,
@@ -77,8 +70,6 @@ pub fn map(s: &[u8], plan: &[u8], out: &mut [u8]) -> Mapping
         &mut sections,
         &mut dims,
         &mut cmdims,
-    ) {
-        Planning::Refused(u) => Mapping::Unplanned(u),
-        Planning::Planned(k) => map_planned(plan, &sections, &dims, &cmdims, k, out),
-    }
+    )?;
+    map_planned(plan, &sections, &dims, &cmdims, k, out)
 }

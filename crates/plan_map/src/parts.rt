@@ -27,7 +27,7 @@ fn place_records(
     requires { PlaceAsked sections.now dims.now n positions.old widths.old }
     ensures { PlaceGiven sections.now dims.now n positions.new widths.new }
 {
-    map_section(&sections[..n], &dims[..n], &mut positions[..n], widths);
+    let _ = map_section(&sections[..n], &dims[..n], &mut positions[..n], widths);
 }
 
 fn put_head(

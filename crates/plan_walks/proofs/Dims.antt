@@ -1,6 +1,7 @@
 -- Dimensions by a plan that stands in tables.
 -- Assumes nothing.
 use Prim.Native.Nat.{ℕ, ◌≤◌}
+use Rattle.std.specs.Prelude.{Result, Ok, Err}
 use mathlib.Core.Path.{◌≡◌, refl, sym, ◌∙◌, ap, subst}
 use mathlib.Core.Bool.{cond}
 use mathlib.Core.Option.{none}
@@ -15,12 +16,11 @@ use Rattle.step_dimensions.specs.Answers.{lent}
 use Rattle.dimensions.specs.Dimensions.{dimensions}
 use Rattle.dimensions.specs.Answers as dims
 use Rattle.dimensions.specs.Answers.{DimensionedIs, dimensioned_no}
-use Rattle.dimensions.specs.declared.set_code_dimensions.Dimensioned.{Dimensioned}
-use Rattle.dimensions.specs.declared.set_code_dimensions.Dimensioned.TheVariants as dimensioned
-use Rattle.plan_walks.specs.Walks.{Walked, walked, walk_says, lists_after, Does}
+use Rattle.kinds.specs.Answers.{refusal_of}
+use Rattle.kinds.specs.declared.refusal.Refusal as kinds
+use Rattle.plan_walks.specs.Walks.{Walk, Walked, walked, walk_says, lists_after, Does}
 use Rattle.plan_walks.specs.Standing.{Standing, planned_in}
 use Rattle.plan_walks.specs.Dimension.{given_by, unblamed, dimension_with, dimension_by, dimensioned_says}
-use Rattle.plan_walks.specs.declared.walk.Walk.{Walk}
 use Rattle.plan_walks.proofs.Fixes.{records-few}
 
 -- ---- a refusal by its number
@@ -83,19 +83,16 @@ module _ (a : Answer (List (List ℕ))) where
       go (done x) q = ap counted (sym q)
       go (refused j o) q = absurd (number-not-zero j (sym (e ∙ ap answer_no q)))
 
-  says : (d : Dimensioned) → dimensioned_no d ≡ answer_no a → dimensioned_says d ≡ counted a
-  says dimensioned.Malformed e = refused-by Refusal.malformed e
-  says dimensioned.NotThere e = refused-by Refusal.not_there e
-  says dimensioned.NoRule e = refused-by Refusal.no_rule e
-  says dimensioned.NoDimension e = refused-by Refusal.no_dimension e
-  says dimensioned.Done e = done-by e
+  says : (d : Result (Unit {0}) kinds.Refusal) → dimensioned_no d ≡ answer_no a → dimensioned_says d ≡ counted a
+  says (Err r) e = refused-by (refusal_of r) e
+  says (Ok u) e = done-by e
 
 afters : (ls : List (List ℕ)) (a : Answer (List (List ℕ))) → dims.lists_after ls a ≡ lists_after ls (unblamed a then λ xs. done (walked 0 xs))
 afters ls (done x) = refl
 afters ls (refused k o) = refl
 
 dimensioned_does :
-    {g : Given} {ls ls' : List (List ℕ)} {d : Dimensioned} {y : Walk} → DimensionedIs g ls ls' d → walk_says y ≡ dimensioned_says d → Does (dimension_with g ls) ls ls' y
+    {g : Given} {ls ls' : List (List ℕ)} {d : Result (Unit {0}) kinds.Refusal} {y : Walk} → DimensionedIs g ls ls' d → walk_says y ≡ dimensioned_says d → Does (dimension_with g ls) ls ls' y
 dimensioned_does {g} {ls} {d = d} h q = record { says = q ∙ says (dimensions g ls) d h.says; lists = h.lists ∙ afters ls (dimensions g ls) }
 
 module _ {b w x cs : List ℕ} (z : Standing b w x cs) where
@@ -106,7 +103,7 @@ module _ {b w x cs : List ℕ} (z : Standing b w x cs) where
   dims_are = z.stands.holds.dims
 
   pub dimensioned_planned :
-      {d : ℕ} {ds cms numbers : List ℕ} {ls ls' : List (List ℕ)} {r : Dimensioned} {y : Walk} → ds ≡ (planned_in z).mapping.dims → cms ≡ (given_by d b (planned_in z)).cm2ns
+      {d : ℕ} {ds cms numbers : List ℕ} {ls ls' : List (List ℕ)} {r : Result (Unit {0}) kinds.Refusal} {y : Walk} → ds ≡ (planned_in z).mapping.dims → cms ≡ (given_by d b (planned_in z)).cm2ns
       → numbers ≡ (given_by d b (planned_in z)).qs → DimensionedIs (lent ds cms numbers d) ls ls' r → walk_says y ≡ dimensioned_says r
       → Does (dimension_by d ls b (planned_in z)) ls ls' y
   dimensioned_planned {d} {ds} {cms} {numbers} {ls} {ls'} {r} {y} e f g h q =

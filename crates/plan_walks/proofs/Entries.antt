@@ -7,28 +7,24 @@ use mathlib.Core.List.{List, ◌++◌}
 use lib.ListN.{length, take, replicate}
 use native.Mathlib.Omega.{arith}
 use borrow.Author.Tests.{le-leb, lt-leb}
+use Rattle.std.specs.Prelude.{Result, Ok, Err}
 use Rattle.meaning.specs.Refusals.{Answer, done, ◌then◌}
 use Rattle.pool.specs.Tabled.{tabled}
 use Rattle.pool.specs.Ranking.{Tabling}
 use Rattle.plans.specs.Columns.{record_limit}
 use Rattle.sections.specs.Sections.{width_count}
 use Rattle.sections.specs.Answer.{MappedIs}
-use Rattle.sections.specs.declared.map_section.Mapped.{Mapped}
+use Rattle.kinds.specs.declared.refusal.Refusal as kinds
 use Rattle.lent_lists.specs.Records.{good_lists}
 use Rattle.fixing.specs.ProverCode.{last_counter}
 use Rattle.map_records.specs.Mapping.{mapped}
 use Rattle.planning.specs.Planning.{Planned, planned}
-use Rattle.planning.specs.Answers.{unplanned_says, Stands, Told, FramesGiven}
+use Rattle.planning.specs.Answers.{Unplanned, Planning, unplanned_says, Stands, Told, FramesGiven}
 use Rattle.planning.specs.Laws.Argued.{reason, unplanned-then}
 use Rattle.planning.specs.Laws.Drawn.{unplanned, answered}
-use Rattle.planning.specs.declared.answer.Unplanned.{Unplanned}
 use Rattle.planning.specs.declared.answer.Plan.{Plan}
-use Rattle.planning.specs.declared.answer.Planning.{Planning}
-use Rattle.planning.specs.declared.answer.Planning.TheVariants as planning
-use Rattle.plan_walks.specs.Walks.{last_domain, good_segment, Walked, lists_after, Does, WalkIs}
+use Rattle.plan_walks.specs.Walks.{Walk, last_domain, good_segment, Walked, lists_after, Does, WalkIs}
 use Rattle.plan_walks.specs.Standing.{Standing, planned_in, Tabled}
-use Rattle.plan_walks.specs.declared.walk.Walk.{Walk}
-use Rattle.plan_walks.specs.declared.walk.Walk.TheVariants as walk
 use Rattle.plan_walks.specs.Query.{Placed}
 use Rattle.plan_walks.proofs.Fixes.{records-few}
 use Rattle.plan_walks.proofs.Dims.{dims-room, dims_are}
@@ -58,22 +54,22 @@ module _ {s b : List ℕ} {own : Bool} {w x ss ds cs : List ℕ} {r : Planning} 
   abbrev Tells : Planning → Type 0
   Tells y = Told b (Tabling w g.literals x g.node_count g.expression_count) ss ds cs g.answer y
 
-  pub unplanned-walk : {u : Unplanned} (what : Planned → Answer Walked) (ls : List (List ℕ)) → r ≡ planning.Refused u → WalkIs s b own what ls ls (walk.Unplanned u)
+  pub unplanned-walk : {u : Unplanned} (what : Planned → Answer Walked) (ls : List (List ℕ)) → r ≡ Err u → WalkIs s b own what ls ls (Err u)
   unplanned-walk {u} what ls q =
       let a : (g.answer then what) ≡ unplanned_says u = ap (λ (z : Answer Planned). z then what) (unplanned g q) ∙ unplanned-then u what in
       record {
         answer = g.answer then what;
         goes = (g.answer, g.plans, refl);
         does = record {
-          says = sym (ap (λ (z : Answer Walked). z then λ y. done y.counter) a ∙ unplanned-then u (λ y. done y.counter));
+          says = sym (ap (λ (z : Answer Walked). z then λ y. done y.counter) a ∙ unplanned-then u (λ (y : Walked). done y.counter));
           lists = stays u ls ∙ ap (lists_after ls) (sym a);
         };
       }
 
   -- ---- a plan
 
-  module _ {k : Plan} (q : r ≡ planning.Planned k) where
-    told : Tells (planning.Planned k)
+  module _ {k : Plan} (q : r ≡ Ok k) where
+    told : Tells (Ok k)
     told = subst Tells q g.told
 
     counted : g.expression_count ≡ k.expressions
@@ -118,7 +114,7 @@ module _ {s b : List ℕ} {own : Bool} {w x ss ds cs : List ℕ} {r : Planning} 
 
     -- the positions of the records, where map_section leaves them at the front of a table
     pub placed_in :
-        (rest : List ℕ) {ps ps' ws ws' : List ℕ} {y : Mapped} → ps ≡ replicate k.records 0 → length ws ≡ width_count
+        (rest : List ℕ) {ps ps' ws ws' : List ℕ} {y : Result (Unit {0}) kinds.Refusal} → ps ≡ replicate k.records 0 → length ws ≡ width_count
         → MappedIs (take k.records ss) (take k.records ds) ps ps' ws ws' y → length ps' ≡ length ps → Placed standing ss ds (ps' ++ rest) k.records
     unfolding standing
     placed_in rest {ps' = ps'} h q m f = record {

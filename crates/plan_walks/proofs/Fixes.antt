@@ -1,6 +1,7 @@
 -- Fixing by a plan that stands in tables.
 -- Assumes nothing.
 use Prim.Native.Nat.{ℕ, ◌-◌, ◌*◌, ◌≤◌}
+use Rattle.std.specs.Prelude.{Result}
 use mathlib.Core.Path.{◌≡◌, refl, sym, ◌∙◌, ap, subst}
 use mathlib.Core.Bool.{Bool, true, false}
 use mathlib.Core.List.{List, [], ◌∷◌}
@@ -26,12 +27,11 @@ use Rattle.plan_tables.specs.Rules as rules
 use Rattle.lent_lists.specs.Verdicts.{Verdict, fine, malformed, not_there, no_rule, full}
 use Rattle.fixing.specs.ProverCode.{temporaries, prover_verdict, list_after}
 use Rattle.fixing.specs.Answers.{ProverCodeIs, fixed_of, fixed_says}
-use Rattle.fixing.specs.declared.fix_prover_code.Fixed.{Fixed}
-use Rattle.plan_walks.specs.Walks.{walked, ruled, walk_says, lists_after, Does}
+use Rattle.kinds.specs.declared.refusal.Refusal as kinds
+use Rattle.plan_walks.specs.Walks.{Walk, walked, ruled, walk_says, lists_after, Does}
 use Rattle.plan_walks.specs.Standing.{Standing, tables, planned_in, Tabled}
 use Rattle.plan_walks.specs.Cms.{cms_of, CmsAsked, CmsGiven}
 use Rattle.plan_walks.specs.Fix.{rules_in, fix_with, fix_by}
-use Rattle.plan_walks.specs.declared.walk.Walk.{Walk}
 
 -- ---- tables of a plan
 
@@ -105,7 +105,7 @@ module _ {b w x cs : List ℕ} (z : Standing b w x cs) where
 
 -- ---- what fixing answers
 
-module _ {rs cms first i last first' i' last' : List ℕ} {counter : ℕ} {r : Fixed} (g : ProverCodeIs rs cms counter first i last first' i' last' r) where
+module _ {rs cms first i last first' i' last' : List ℕ} {counter : ℕ} {r : Result ℕ kinds.Refusal} (g : ProverCodeIs rs cms counter first i last first' i' last' r) where
   abbrev ls : List (List ℕ)
   ls = first ∷ i ∷ last ∷ []
 
@@ -145,7 +145,7 @@ module _ {rs cms first i last first' i' last' : List ℕ} {counter : ℕ} {r : F
 
 module _ {b w x cs : List ℕ} (z : Standing b w x cs) (in_n : Bool) where
   pub fixed-planned :
-      {rs cms first i last first' i' last' : List ℕ} {counter : ℕ} {r : Fixed} {y : Walk} → rs ≡ rules_in in_n b (planned_in z)
+      {rs cms first i last first' i' last' : List ℕ} {counter : ℕ} {r : Result ℕ kinds.Refusal} {y : Walk} → rs ≡ rules_in in_n b (planned_in z)
       → cms ≡ cms_of in_n (mapped b (tabled (tables z))).sections → ProverCodeIs rs cms counter first i last first' i' last' r → walk_says y ≡ fixed_says r
       → Does (fix_by counter first i last in_n b (planned_in z)) (first ∷ i ∷ last ∷ []) (first' ∷ i' ∷ last' ∷ []) y
   fixed-planned {cms = cms} {first = first} {i = i} {last = last} {first' = first'} {i' = i'} {last' = last'} {counter = counter} {y = y} e f g q =

@@ -1,6 +1,7 @@
 -- The query code's walk by a plan that stands in tables.
 -- Assumes nothing.
 use Prim.Native.Nat.{ℕ, zero, suc, ◌+◌, ◌≤◌}
+use Rattle.std.specs.Prelude.{Result}
 use mathlib.Core.Path.{◌≡◌, refl, sym, ◌∙◌, ap, subst}
 use mathlib.Core.Bool.{true}
 use mathlib.Core.List.{List, [], ◌∷◌, ◌++◌}
@@ -15,7 +16,6 @@ use Rattle.plans.specs.Columns.{record_limit}
 use Rattle.map_records.specs.Mapping.{cm1_n, cm4_n, twin}
 use Rattle.sections.specs.Sections.{known, well_formed, mapping, positions_from, widths, width_count}
 use Rattle.sections.specs.Answer.{MappedIs, positions_after}
-use Rattle.sections.specs.declared.map_section.Mapped.{Mapped}
 use Rattle.plan_tables.specs.Tables.{numbers_in, positions, trees, trees_in}
 use Rattle.plan_tables.specs.Sectioned.{numbers-few}
 use Rattle.plan_tables.specs.Sizes.{trees-of-size}
@@ -24,11 +24,10 @@ use Rattle.planning.specs.Laws.Known.{mapped-known}
 use Rattle.lent_lists.specs.Verdicts.{Verdict, fine, malformed, not_there, no_rule, full}
 use Rattle.query_fixing.specs.QueryCode.{query_verdict, queried_after}
 use Rattle.query_fixing.specs.QueryAnswers.{QueryCodeIs, Says, queried_says}
-use Rattle.query_fixing.specs.declared.fix_query_code.Queried.{Queried}
-use Rattle.plan_walks.specs.Walks.{walked, ruled, walk_says, lists_after, Does}
+use Rattle.kinds.specs.declared.refusal.Refusal as kinds
+use Rattle.plan_walks.specs.Walks.{Walk, walked, ruled, walk_says, lists_after, Does}
 use Rattle.plan_walks.specs.Standing.{Standing, tables, planned_in}
 use Rattle.plan_walks.specs.Query.{query_with, query_by, Placed}
-use Rattle.plan_walks.specs.declared.walk.Walk.{Walk}
 use Rattle.plan_walks.proofs.Fixes.{records-few, sections_are}
 
 -- ---- positions
@@ -70,7 +69,7 @@ module _ {b w x cs : List ℕ} (z : Standing b w x cs) where
       )
 
   pub placed-positions :
-      {n : ℕ} {ss₀ ds₀ ps ps' ws ws' : List ℕ} {r : Mapped} → n ≡ z.plan.records → ss₀ ≡ ss → ds₀ ≡ ds → ps ≡ replicate n 0 → length ws ≡ width_count
+      {n : ℕ} {ss₀ ds₀ ps ps' ws ws' : List ℕ} {r : Result (Unit {0}) kinds.Refusal} → n ≡ z.plan.records → ss₀ ≡ ss → ds₀ ≡ ds → ps ≡ replicate n 0 → length ws ≡ width_count
       → MappedIs ss₀ ds₀ ps ps' ws ws' r → ps' ≡ positions (planned_in z).mapping
   placed-positions {n} {ps = ps} {ws = ws} k e f h q g =
       g.positions
@@ -105,7 +104,7 @@ module _ {b w x cs : List ℕ} (z : Standing b w x cs) {ss ds ps : List ℕ} {n 
 
 -- ---- what the walk answers
 
-module _ {ts first i last first' i' last' : List ℕ} {r : Queried} (g : QueryCodeIs ts first i last first' i' last' r) where
+module _ {ts first i last first' i' last' : List ℕ} {r : Result (Unit {0}) kinds.Refusal} (g : QueryCodeIs ts first i last first' i' last' r) where
   abbrev ls : List (List ℕ)
   ls = first ∷ i ∷ last ∷ []
 
@@ -137,11 +136,11 @@ module _ {ts first i last first' i' last' : List ℕ} {r : Queried} (g : QueryCo
     lists = rw (g.first_is, g.i_is, g.last_is) (stays (query_verdict ts first i last) refl);
   }
 
-pub told_as : {r d : Queried} {y : Answer ℕ} → r ≡ d → y ≡ (queried_says d then λ _. done 0) → y ≡ (queried_says r then λ _. done 0)
-told_as e h = h ∙ ap (λ (v : Queried). queried_says v then λ _. done 0) (sym e)
+pub told_as : {r d : Result (Unit {0}) kinds.Refusal} {y : Answer ℕ} → r ≡ d → y ≡ (queried_says d then λ _. done 0) → y ≡ (queried_says r then λ _. done 0)
+told_as e h = h ∙ ap (λ (v : Result (Unit {0}) kinds.Refusal). queried_says v then λ _. done 0) (sym e)
 
 pub queried-planned :
-    {b w x cs : List ℕ} (z : Standing b w x cs) {ts first i last first' i' last' : List ℕ} {r : Queried} {y : Walk} → ts ≡ trees (planned_in z).mapping
+    {b w x cs : List ℕ} (z : Standing b w x cs) {ts first i last first' i' last' : List ℕ} {r : Result (Unit {0}) kinds.Refusal} {y : Walk} → ts ≡ trees (planned_in z).mapping
     → QueryCodeIs ts first i last first' i' last' r → walk_says y ≡ (queried_says r then λ _. done 0)
     → Does (query_by first i last (planned_in z)) (first ∷ i ∷ last ∷ []) (first' ∷ i' ∷ last' ∷ []) y
 queried-planned z {first = first} {i = i} {last = last} {first' = first'} {i' = i'} {last' = last'} {y = y} e g q =

@@ -1,23 +1,22 @@
 -- THE DIMENSIONS OF A SEGMENT'S LISTS BY A PLAN: the records' dimensions, the record of each cm number in "2ns" and the record numbers of q that a plan gives to
 -- `set_code_dimensions`.
 -- Assumes nothing: these are definitions.
-use Rattle.std.specs.Prelude.{ℕ, ◌≡◌, List, [], ◌∷◌}
+use Rattle.std.specs.Prelude.{ℕ, ◌≡◌, List, [], ◌∷◌, Result}
 use Rattle.std.proofs.Math.Option.{none}
-use Rattle.meaning.specs.Refusals.{Refusal, Answer, done, refused, ◌then◌}
+use Rattle.meaning.specs.Refusals.{Answer, done, refused, ◌then◌}
+use Rattle.kinds.specs.Answers.{plain_answer_of}
+use Rattle.kinds.specs.declared.refusal.Refusal as kinds
 use Rattle.lists.specs.Records.{good_list}
 use Rattle.lent_lists.specs.Records.{good_lists}
 use Rattle.step_dimensions.specs.StepDimensions.{Given}
 use Rattle.step_dimensions.specs.Answers.{lent}
 use Rattle.dimensions.specs.Dimensions.{dimensions}
 use Rattle.dimensions.specs.Answers.{first_dim_x}
-use Rattle.dimensions.specs.declared.set_code_dimensions.Dimensioned.{Dimensioned}
-use Rattle.dimensions.specs.declared.set_code_dimensions.Dimensioned.TheVariants as dimensioned
 use Rattle.plans.specs.Plan.{qs}
 use Rattle.plan_tables.specs.Tables.{cm2ns}
 use Rattle.planning.specs.Planning.{Planned}
-use Rattle.plan_walks.specs.Walks.{Walked, walked, Does, WalkIs}
+use Rattle.plan_walks.specs.Walks.{Walk, Walked, walked, Does, WalkIs}
 use Rattle.plan_walks.specs.Standing.{Standing, planned_in, Tabled}
-use Rattle.plan_walks.specs.declared.walk.Walk.{Walk}
 
 -- what a plan gives, with the x dimension of a pass
 abbrev pub given_by : ℕ → List ℕ → Planned → Given
@@ -43,13 +42,9 @@ DimensionIs s b x first i last first' i' last' r =
 abbrev pub FirstIs : List ℕ → List ℕ → List ℕ → List ℕ → Walk → Type 0
 FirstIs s b first first' r = WalkIs s b (good_list first) (dimension_by first_dim_x (first ∷ []) b) (first ∷ []) (first' ∷ []) r
 
--- WHAT Dimensioned SAYS
-abbrev pub dimensioned_says : Dimensioned → Answer ℕ
-dimensioned_says dimensioned.Malformed = refused Refusal.malformed none
-dimensioned_says dimensioned.NotThere = refused Refusal.not_there none
-dimensioned_says dimensioned.NoRule = refused Refusal.no_rule none
-dimensioned_says dimensioned.NoDimension = refused Refusal.no_dimension none
-dimensioned_says dimensioned.Done = done 0
+-- WHAT A PASS SAYS
+abbrev pub dimensioned_says : Result (Unit {0}) kinds.Refusal → Answer ℕ
+dimensioned_says r = plain_answer_of r then λ _. done 0
 
 -- ── parts ────────────────────────────────────────────────────────────────────
 -- a plan whose records' sections stand in a table, with their dimensions and their number

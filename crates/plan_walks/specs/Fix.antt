@@ -7,10 +7,9 @@ use Rattle.frames.specs.Order.{expression_limit}
 use Rattle.plan_tables.specs.Tables.{rules}
 use Rattle.fixing.specs.ProverCode.{temporaries, prover_verdict, list_after}
 use Rattle.planning.specs.Planning.{Planned}
-use Rattle.plan_walks.specs.Walks.{good_segment, Walked, walked, ruled, Does, WalkIs}
+use Rattle.plan_walks.specs.Walks.{Walk, good_segment, Walked, walked, ruled, Does, WalkIs}
 use Rattle.plan_walks.specs.Standing.{Standing, planned_in, Tabled}
 use Rattle.plan_walks.specs.Cms.{cms_of}
-use Rattle.plan_walks.specs.declared.walk.Walk.{Walk}
 
 -- the domain "n"
 abbrev pub is_n : ℕ → Bool

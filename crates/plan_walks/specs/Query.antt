@@ -6,9 +6,8 @@ use Rattle.lent_lists.specs.Records.{good_lists}
 use Rattle.query_fixing.specs.QueryCode.{query_verdict, queried_after}
 use Rattle.plan_tables.specs.Tables.{positions, trees}
 use Rattle.planning.specs.Planning.{Planned}
-use Rattle.plan_walks.specs.Walks.{Walked, walked, ruled, Does, WalkIs}
+use Rattle.plan_walks.specs.Walks.{Walk, Walked, walked, ruled, Does, WalkIs}
 use Rattle.plan_walks.specs.Standing.{Standing, planned_in, Tabled}
-use Rattle.plan_walks.specs.declared.walk.Walk.{Walk}
 
 module _ (first i last : List ℕ) where
   -- with the trees of cm numbers

@@ -1,16 +1,15 @@
 -- A WALK OVER A SEGMENT'S LISTS BY A PLAN: what is answered to frames, a plan's record and the lists, and what the lists hold after it.
 -- Assumes nothing: these are definitions.
-use Rattle.std.specs.Prelude.{ℕ, ◌≡◌, Bool, ◌&&◌, List, leb}
+use Rattle.std.specs.Prelude.{ℕ, ◌≡◌, Bool, ◌&&◌, List, leb, Result}
 use Rattle.std.proofs.Math.Option.{none}
 use Rattle.meaning.specs.Refusals.{Refusal, Answer, done, refused, ◌then◌}
+use Rattle.kinds.specs.Answers.{answer_of}
+use Rattle.kinds.specs.declared.refusal.Refused.{Refused}
 use Rattle.frames.specs.Reading.{reading}
 use Rattle.lent_lists.specs.Verdicts.{Verdict, fine, malformed, not_there, no_rule, full}
 use Rattle.lent_lists.specs.Records.{good_lists}
 use Rattle.fixing.specs.ProverCode.{last_counter}
 use Rattle.planning.specs.Planning.{Planned, Goes}
-use Rattle.planning.specs.Answers.{unplanned_says}
-use Rattle.plan_walks.specs.declared.walk.Walk.{Walk}
-use Rattle.plan_walks.specs.declared.walk.Walk.TheVariants as walk
 
 -- the domains are 0, "n", and 1, "2ns"
 abbrev pub last_domain : ℕ
@@ -37,15 +36,13 @@ ruled no_rule a = refused Refusal.no_rule none
 ruled full a = refused Refusal.full none
 
 -- ── what the code answers ────────────────────────────────────────────────────
--- WHAT Walk SAYS: the counter, or document 01's refusal
+-- the counter, 0 where a walk has none, or document 01's refusal
+abbrev pub Walk : Type 0
+Walk = Result ℕ Refused
+
+-- WHAT IT SAYS
 abbrev pub walk_says : Walk → Answer ℕ
-walk_says (walk.Unplanned u) = unplanned_says u
-walk_says walk.Malformed = refused Refusal.malformed none
-walk_says walk.NotThere = refused Refusal.not_there none
-walk_says walk.NoRule = refused Refusal.no_rule none
-walk_says walk.NoDimension = refused Refusal.no_dimension none
-walk_says walk.Full = refused Refusal.full none
-walk_says (walk.Done n) = done n
+walk_says r = answer_of r
 
 -- lent lists after an answer: as they were on a refusal
 abbrev pub lists_after : List (List ℕ) → Answer Walked → List (List ℕ)

@@ -1,36 +1,21 @@
 // `set_code_dimensions` and `set_code_dimensions_first` by a plan.
-ghost use Rattle.std.specs.Prelude.{◌≡◌, [], ◌∷◌};
+ghost use Rattle.std.specs.Prelude.{[], ◌∷◌};
 ghost use Rattle.dimensions.specs.Answers.{first_dim_x};
-ghost use Rattle.plan_walks.specs.Walks.{walk_says};
-ghost use Rattle.plan_walks.specs.Dimension.{DimensionAsked, DimensionGiven, DimensionIs, FirstIs, dimensioned_says};
+ghost use Rattle.plan_walks.specs.Dimension.{DimensionAsked, DimensionGiven, DimensionIs, FirstIs};
 
 use crate::cms::fill_cms;
-use crate::walk::Walk;
-use dimensions::set_code_dimensions::{
-    Dimensioned, set_code_dimensions, set_code_dimensions_first,
-};
+use dimensions::set_code_dimensions::{set_code_dimensions, set_code_dimensions_first};
 use frames::count::EXPRESSION_LIMIT;
 use frames::tables::NODE_WORDS;
+use kinds::refusal::Refused;
 use lent_lists::records::good_lists;
 use lists::records::good_list;
 use map_records::rest::CM_LIMIT;
 use plan_tables::qs::fill_qs;
-use planning::answer::Planning;
 use planning::frames_plan::plan_frames;
 use plans::count::NUMBER_LIMIT;
 use sections::map_section::RECORD_LIMIT;
-
-fn told(d: Dimensioned) -> Walk
-    ensures { walk_says result ≡ dimensioned_says d }
-{
-    match d {
-        Dimensioned::Malformed => Walk::Malformed,
-        Dimensioned::NotThere => Walk::NotThere,
-        Dimensioned::NoRule => Walk::NoRule,
-        Dimensioned::NoDimension => Walk::NoDimension,
-        Dimensioned::Done => Walk::Done(0),
-    }
-}
+use step_dimensions::lent::Lent;
 
 // A plan that stands in tables.
 fn dimension_planned(
@@ -42,7 +27,7 @@ fn dimension_planned(
     first: &mut [u8],
     i: &mut [u8],
     last: &mut [u8],
-) -> Walk
+) -> Result<usize, Refused>
     requires { DimensionAsked plan.now sections.now dims.now records }
     ensures { DimensionGiven plan.now sections.now dims.now records dim_x (first.old ∷ i.old ∷ last.old ∷ []) (first.new ∷ i.new ∷ last.new ∷ []) result }
 {
@@ -50,7 +35,14 @@ fn dimension_planned(
     let n = fill_cms(false, sections, records, &mut cms);
     let mut numbers = [0u16; NUMBER_LIMIT];
     let q = fill_qs(plan, &mut numbers);
-    told(set_code_dimensions(dims, &cms[..n], &numbers[..q], dim_x, first, i, last))
+    let lent = Lent {
+        record_dims: dims,
+        cm_2ns: &cms[..n],
+        qs: &numbers[..q],
+        dim_x,
+    };
+    set_code_dimensions(&lent, first, i, last)?;
+    Ok(0)
 }
 
 fn first_planned(
@@ -59,7 +51,7 @@ fn first_planned(
     dims: &[u16],
     records: usize,
     first: &mut [u8],
-) -> Walk
+) -> Result<usize, Refused>
     requires { DimensionAsked plan.now sections.now dims.now records }
     ensures { DimensionGiven plan.now sections.now dims.now records first_dim_x (first.old ∷ []) (first.new ∷ []) result }
 {
@@ -67,7 +59,8 @@ fn first_planned(
     let n = fill_cms(false, sections, records, &mut cms);
     let mut numbers = [0u16; NUMBER_LIMIT];
     let q = fill_qs(plan, &mut numbers);
-    told(set_code_dimensions_first(dims, &cms[..n], &numbers[..q], first))
+    set_code_dimensions_first(dims, &cms[..n], &numbers[..q], first)?;
+    Ok(0)
 }
 
 // Frames, a plan's record, the pass's own x dimension, and the three lists of a segment, which get their dimensions in place. On a refusal none of them has
@@ -79,7 +72,7 @@ pub fn dimension(
     first: &mut [u8],
     i: &mut [u8],
     last: &mut [u8],
-) -> Walk
+) -> Result<usize, Refused>
     ensures { DimensionIs s.now plan.now dim_x first.old i.old last.old first.new i.new last.new result }
 {
     let well_formed = good_lists(first, i, last);
@@ -88,7 +81,7 @@ pub fn dimension(
     let mut sections = [0u16; RECORD_LIMIT];
     let mut dims = [0u16; RECORD_LIMIT];
     let mut cmdims = [0u16; CM_LIMIT];
-    match plan_frames(
+    let k = plan_frames(
         s,
         plan,
         well_formed,
@@ -97,17 +90,13 @@ pub fn dimension(
         &mut sections,
         &mut dims,
         &mut cmdims,
-    ) {
-        Planning::Refused(u) => Walk::Unplanned(u),
-        Planning::Planned(k) => {
-            let n = k.records;
-            dimension_planned(plan, &sections, &dims[..n], n, dim_x, first, i, last)
-        }
-    }
+    )?;
+    let n = k.records;
+    dimension_planned(plan, &sections, &dims[..n], n, dim_x, first, i, last)
 }
 
 // The same for a first list alone, whose x dimension is 3.
-pub fn dimension_first(s: &[u8], plan: &[u8], first: &mut [u8]) -> Walk
+pub fn dimension_first(s: &[u8], plan: &[u8], first: &mut [u8]) -> Result<usize, Refused>
     ensures { FirstIs s.now plan.now first.old first.new result }
 {
     let well_formed = good_list(first);
@@ -116,7 +105,7 @@ pub fn dimension_first(s: &[u8], plan: &[u8], first: &mut [u8]) -> Walk
     let mut sections = [0u16; RECORD_LIMIT];
     let mut dims = [0u16; RECORD_LIMIT];
     let mut cmdims = [0u16; CM_LIMIT];
-    match plan_frames(
+    let k = plan_frames(
         s,
         plan,
         well_formed,
@@ -125,11 +114,7 @@ pub fn dimension_first(s: &[u8], plan: &[u8], first: &mut [u8]) -> Walk
         &mut sections,
         &mut dims,
         &mut cmdims,
-    ) {
-        Planning::Refused(u) => Walk::Unplanned(u),
-        Planning::Planned(k) => {
-            let n = k.records;
-            first_planned(plan, &sections, &dims[..n], n, first)
-        }
-    }
+    )?;
+    let n = k.records;
+    first_planned(plan, &sections, &dims[..n], n, first)
 }

@@ -2,14 +2,14 @@
 ghost use Rattle.plan_walks.specs.Fix.{RulesGiven, PlannedAsked, FixAsked, FixGiven, FixIs};
 
 use crate::cms::fill_cms;
-use crate::walk::{DOMAIN_N, Walk, is_segment};
-use fixing::fix_prover_code::{Fixed, fix_prover_code};
+use crate::walk::{DOMAIN_N, is_segment};
+use fixing::fix_prover_code::fix_prover_code;
 use frames::count::EXPRESSION_LIMIT;
 use frames::tables::NODE_WORDS;
+use kinds::refusal::Refused;
 use map_records::rest::CM_LIMIT;
 use plan_tables::columns::column_expressions;
 use plan_tables::rules::fill_rules;
-use planning::answer::Planning;
 use planning::frames_plan::plan_frames;
 use plans::layout::{NUMBER_SIZE, q2exp_at};
 use sections::map_section::RECORD_LIMIT;
@@ -54,7 +54,7 @@ fn fix_planned(
     first: &mut [u8],
     i: &mut [u8],
     last: &mut [u8],
-) -> Walk
+) -> Result<usize, Refused>
     requires { FixAsked plan.now nodes.now expressions.now sections.now cmdims.now records }
     ensures { FixGiven in_n plan.now nodes.now expressions.now sections.now cmdims.now records counter first.old i.old last.old first.new i.new last.new result }
 {
@@ -62,13 +62,7 @@ fn fix_planned(
     fill_plan_rules(in_n, plan, nodes, expressions, cmdims, &mut rules);
     let mut cms = [0u16; RECORD_LIMIT];
     let n = fill_cms(in_n, sections, records, &mut cms);
-    match fix_prover_code(&rules, &cms[..n], counter, first, i, last) {
-        Fixed::Malformed => Walk::Malformed,
-        Fixed::NotThere => Walk::NotThere,
-        Fixed::NoRule => Walk::NoRule,
-        Fixed::Full => Walk::Full,
-        Fixed::Done(k) => Walk::Done(k),
-    }
+    Ok(fix_prover_code(&rules, &cms[..n], counter, first, i, last)?)
 }
 
 // Frames, each behind its length, a plan's record, and a segment: its counter and its three lists, whose references are fixed in place. On a refusal none of
@@ -81,7 +75,7 @@ pub fn fix(
     first: &mut [u8],
     i: &mut [u8],
     last: &mut [u8],
-) -> Walk
+) -> Result<usize, Refused>
     ensures { FixIs s.now plan.now domain counter first.old i.old last.old first.new i.new last.new result }
 {
     let well_formed = is_segment(domain, counter, first, i, last);
@@ -91,7 +85,7 @@ pub fn fix(
     let mut sections = [0u16; RECORD_LIMIT];
     let mut dims = [0u16; RECORD_LIMIT];
     let mut cmdims = [0u16; CM_LIMIT];
-    match plan_frames(
+    let k = plan_frames(
         s,
         plan,
         well_formed,
@@ -100,22 +94,18 @@ pub fn fix(
         &mut sections,
         &mut dims,
         &mut cmdims,
-    ) {
-        Planning::Refused(u) => Walk::Unplanned(u),
-        Planning::Planned(k) => {
-            fix_planned(
-                in_n,
-                plan,
-                &nodes,
-                &expressions,
-                &sections,
-                &cmdims,
-                k.records,
-                counter,
-                first,
-                i,
-                last,
-            )
-        }
-    }
+    )?;
+    fix_planned(
+        in_n,
+        plan,
+        &nodes,
+        &expressions,
+        &sections,
+        &cmdims,
+        k.records,
+        counter,
+        first,
+        i,
+        last,
+    )
 }

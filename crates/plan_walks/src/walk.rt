@@ -3,7 +3,6 @@ ghost use Rattle.std.specs.Prelude.{◌≡◌};
 ghost use Rattle.plan_walks.specs.Walks.{good_segment};
 
 use lent_lists::records::good_lists;
-use planning::answer::Unplanned;
 
 // A counter of a segment has 16 bits.
 const LAST_COUNTER: usize = 65535;
@@ -11,18 +10,6 @@ const LAST_COUNTER: usize = 65535;
 pub const DOMAIN_N: u8 = 0;
 
 pub const DOMAIN_2NS: u8 = 1;
-
-// The counter after it, 0 where a walk has none; or why there is no plan; or the refusal that the walk meets: 1, 3, 10, 12 or 9.
-#[derive(Clone, Copy)]
-pub enum Walk {
-    Unplanned(Unplanned),
-    Malformed,
-    NotThere,
-    NoRule,
-    NoDimension,
-    Full,
-    Done(usize),
-}
 
 // A domain that there is, a counter, and three lists of whole records.
 pub fn is_segment(domain: u8, counter: usize, first: &[u8], i: &[u8], last: &[u8]) -> bool

@@ -19,7 +19,9 @@ use Rattle.map_records.specs.All.{AllAsks, Mapped}
 use Rattle.map_records.specs.declared.all.Records.{Records}
 use Rattle.planning.specs.Planning.{columned}
 use Rattle.planning.specs.Answers.{AdmittedAsks, Tells}
-use Rattle.planning.specs.declared.answer.Planning.TheVariants as planning
+use Rattle.std.specs.Prelude.{Ok, Err}
+use Rattle.kinds.specs.Answers.{refusing}
+use Rattle.kinds.specs.declared.refusal.Refusal.TheVariants as refusal
 
 module _ {b : List ℕ} {t : Tables} {rank : ℕ → ℕ} {table ss ds cs : List ℕ} (a : AdmittedAsks b t rank table ss ds cs) where
   pub headed : Headed b
@@ -80,6 +82,6 @@ module _ {b : List ℕ} {t : Tables} {rank : ℕ → ℕ} {table ss ds cs : List
 
         pub planned-told :
             {z : Bool} → z ≡ some_none (take m.count ds') → z ≡ false
-            → Tells b t ss' ds' cs' (mapped b (tabled t)) (columned b (tabled t)) (planning.Planned (record { expressions = t.expression_count; records = m.count; q_dim = m.q_dim }))
+            → Tells b t ss' ds' cs' (mapped b (tabled t)) (columned b (tabled t)) (Ok (record { expressions = t.expression_count; records = m.count; q_dim = m.q_dim }))
         unfolding columned
         planned-told q y = (rw (sym e ∙ h, sym f ∙ k, tested q ∙ y), record { expressions = refl; rank = rank; ready = ready; holds = g.holds; quotient = g.quotient })

@@ -8,6 +8,7 @@ use mathlib.Core.List.{List, [], ◌∷◌, ◌++◌}
 use mathlib.Core.Logic.{◌⊎◌, inl, inr}
 use native.Mathlib.Omega.{arith}
 use lib.ListN.{length, take, drop}
+use Rattle.std.specs.Prelude.{Err}
 use Rattle.meaning.specs.Trees.{Member}
 use Rattle.meaning.specs.Refusals.{Refusal, Answer, done, refused, ◌then◌}
 use Rattle.meaning.proofs.Laws.Tests.{done-not-refused}
@@ -27,10 +28,7 @@ use Rattle.plans.specs.Passed.{names-there}
 use Rattle.map_records.specs.Mapping.{Mapping}
 use Rattle.planning.specs.Laws.QTable.{q-table}
 use Rattle.planning.specs.Planning.{all_there, plan_shape, Verdict}
-use Rattle.planning.specs.Answers.{unplanned_says, ShapeAsked, PoolAsked, ShapedAsks, Ruled}
-use Rattle.planning.specs.declared.answer.Unplanned.{Unplanned}
-use Rattle.planning.specs.declared.answer.Planning.{Planning}
-use Rattle.planning.specs.declared.answer.Planning.TheVariants as planning
+use Rattle.planning.specs.Answers.{Unplanned, Planning, unplanned_says, ShapeAsked, PoolAsked, ShapedAsks, Ruled}
 use Rattle.planning.proofs.There.{names_of}
 
 -- ---- a refusal of the shape
@@ -41,7 +39,7 @@ shape-asked a = record { whole = a.fitting.whole; nodes = a.read.nodes; expressi
 module _ (b : List ℕ) (t : Tables) {ss ds cs : List ℕ} where
   pub shape-told :
       {k : Refusal} {o : Option ℕ} {u : Unplanned} → refused k o ≡ plan_shape b (tabled t) → refused k o ≡ unplanned_says {A = Mapping} u
-      → Ruled (Verdict b (tabled t)) b t ss ds cs (planning.Refused u)
+      → Ruled (Verdict b (tabled t)) b t ss ds cs (Err u)
   shape-told {k} {o} h e = record {
     verdict = refused k o;
     judged = record { refuses = λ r n q. h ∙ q; decides = λ q. absurd (done-not-refused (sym q ∙ sym h)) };

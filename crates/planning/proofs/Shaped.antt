@@ -7,6 +7,8 @@ use mathlib.Core.List.{List}
 use mathlib.Core.Logic.{inl, inr}
 use Rattle.meaning.specs.Refusals.{Refusal, Answer, done, refused}
 use Rattle.meaning.proofs.Laws.Tests.{done-not-refused}
+use Rattle.std.specs.Prelude.{Result, Ok, Err}
+use Rattle.kinds.specs.declared.refusal.Refused.{Refused}
 use Rattle.pool.specs.Pool.{Pool}
 use Rattle.pool.specs.Shaped.{Shaped}
 use Rattle.pool.specs.Admission.{shape, Ranked}
@@ -15,16 +17,10 @@ use Rattle.pool.specs.Tabled.{Tables, tabled}
 use Rattle.pool.specs.Ranking.{Starts}
 use Rattle.pool.specs.Laws.Shape.{Shape, shape_is, shaped-counts, shaped-there}
 use Rattle.pool.specs.Admitting.{Admits, verdict_says}
-use Rattle.pool.specs.declared.admit.Verdict as admit
-use Rattle.pool.specs.declared.admit.Verdict.TheVariants as verdict
-use Rattle.pool.specs.declared.admit.Admission.{Admission}
 use Rattle.plans.specs.Plan.{q2exp}
 use Rattle.map_records.specs.Mapping.{Mapping, mapped}
 use Rattle.planning.specs.Planning.{columned}
-use Rattle.planning.specs.Answers.{unplanned_says, AdmittedAsks, ShapedAsks, Ruled, Tells}
-use Rattle.planning.specs.declared.answer.Unplanned.{Unplanned}
-use Rattle.planning.specs.declared.answer.Planning.{Planning}
-use Rattle.planning.specs.declared.answer.Planning.TheVariants as planning
+use Rattle.planning.specs.Answers.{Unplanned, Planning, unplanned_says, AdmittedAsks, ShapedAsks, Ruled, Tells}
 
 pub shaped-fine : (p : Pool) → Shaped p → shape p ≡ done tt
 shaped-fine p s = go (shape p) (shape_is p)
@@ -39,22 +35,20 @@ module _ {b : List ℕ} {t : Tables} {table ss ds cs : List ℕ} (a : ShapedAsks
   pub starts_in : Starts t table
   starts_in = subst (λ (l : List ℕ). Starts t l) (sym a.tabling) a.starts
 
-  module _ {r : Admission} (g : Admits t table r) where
-    ends : Ends (tabled t) (q2exp b) (verdict_says r.verdict)
-    ends = subst (λ (l : List ℕ). Ends (tabled t) l (verdict_says r.verdict)) a.tabling (g.judged.decides (shaped-fine (tabled t) a.starts.shaped))
+  module _ {r : Result (List ℕ) Refused} (g : Admits t table r) where
+    ends : Ends (tabled t) (q2exp b) (verdict_says r)
+    ends = subst (λ (l : List ℕ). Ends (tabled t) l (verdict_says r)) a.tabling (g.judged.decides (shaped-fine (tabled t) a.starts.shaped))
 
-    pub refused-told :
-        {v : admit.Verdict} {k : Refusal} {o : Option ℕ} {u : Unplanned} {ss' ds' cs' : List ℕ} → r.verdict ≡ v → verdict_says v ≡ refused k o → refused k o ≡ unplanned_says {A = Mapping} u
-        → Ruled (Ends (tabled t) (q2exp b)) b t ss' ds' cs' (planning.Refused u)
-    refused-told {k = k} {o = o} q e f = record {
-      verdict = refused k o;
-      judged = subst (λ (x : Answer (Unit {0})). Ends (tabled t) (q2exp b) x) (ap verdict_says q ∙ e) ends;
-      tells = f;
+    pub refused-told : {u : Unplanned} {ss' ds' cs' : List ℕ} → r ≡ Err u → Ruled (Ends (tabled t) (q2exp b)) b t ss' ds' cs' (Err u)
+    refused-told {u} q = record {
+      verdict = unplanned_says u;
+      judged = subst (λ (x : Answer (Unit {0})). Ends (tabled t) (q2exp b) x) (ap verdict_says q) ends;
+      tells = refl;
     }
 
-    module _ (q : r.verdict ≡ verdict.Admitted) where
+    module _ {ranks : List ℕ} (q : r ≡ Ok ranks) where
       admitted : Ends (tabled t) (q2exp b) (done tt)
-      admitted = subst (λ (v : admit.Verdict). Ends (tabled t) (q2exp b) (verdict_says v)) q ends
+      admitted = subst (λ (v : Result (List ℕ) Refused). Ends (tabled t) (q2exp b) (verdict_says v)) q ends
 
       ranked-by : (rank : (ℕ → ℕ)) × Ranked (tabled t) (q2exp b) rank
       ranked-by = go admitted

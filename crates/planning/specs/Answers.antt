@@ -1,9 +1,11 @@
 -- What the functions of planning ask and answer, of pools and plans in tables.
 -- Assumes nothing: these are definitions.
-use Rattle.std.specs.Prelude.{ℕ, ◌*◌, ◌≤◌, ◌≡◌, Bool, true, List, length, replicate}
-use Rattle.std.proofs.Math.Option.{Option, none, some}
+use Rattle.std.specs.Prelude.{ℕ, ◌*◌, ◌≤◌, ◌≡◌, Bool, true, List, length, replicate, Result, Ok, Err}
+use Rattle.std.proofs.Math.Option.{Option}
 use Rattle.meaning.specs.Refusals.{Refusal, Answer, done, refused, ◌then◌}
-use Rattle.frames.specs.Order.{blame_answer, node_limit, expression_limit}
+use Rattle.kinds.specs.Answers.{refusal_of, blame_of}
+use Rattle.kinds.specs.declared.refusal.Refused.{Refused}
+use Rattle.frames.specs.Order.{node_limit, expression_limit}
 use Rattle.frames.specs.Reading.{reading}
 use Rattle.frames.specs.declared.count.Counts.{Counts}
 use Rattle.pool.specs.Admission.{Ranked}
@@ -11,32 +13,24 @@ use Rattle.pool.specs.Verdict.{Ends}
 use Rattle.pool.specs.Tabled.{Tables, tabled}
 use Rattle.pool.specs.Ranking.{Tabling, Starts}
 use Rattle.pool.specs.Admitting.{shape_says}
-use Rattle.pool.specs.declared.admit.Shape.{Shape}
 use Rattle.plans.specs.Plan.{Whole, q2exp}
 use Rattle.plans.specs.Columns.{record_limit, record_count}
 use Rattle.plans.specs.Agreement.{names_there}
 use Rattle.map_records.specs.Mapping.{cm_limit, mapped, quotient_dim}
 use Rattle.map_records.specs.Tables.{Holds, Ready}
 use Rattle.planning.specs.Planning.{all_there, plan_shape, Verdict, columned, Planned, planned, Judged, argued, Plans}
-use Rattle.planning.specs.declared.answer.Unplanned.{Unplanned}
-use Rattle.planning.specs.declared.answer.Unplanned.TheVariants as why
 use Rattle.planning.specs.declared.answer.Plan.{Plan}
-use Rattle.planning.specs.declared.answer.Planning.{Planning}
-use Rattle.planning.specs.declared.answer.Planning.TheVariants as planning
 
--- WHAT Unplanned SAYS: document 01's refusal, and the node to blame
+-- why there is no plan, or the plan
+abbrev pub Unplanned : Type 0
+Unplanned = Refused
+
+abbrev pub Planning : Type 0
+Planning = Result Plan Refused
+
+-- WHAT IT SAYS: document 01's refusal, and the node to blame
 abbrev pub unplanned_says : {A : Type 0} → Unplanned → Answer A
-unplanned_says (why.Malformed b) = refused Refusal.malformed (blame_answer b)
-unplanned_says (why.Limit b) = refused Refusal.full (blame_answer b)
-unplanned_says why.IllFormed = refused Refusal.malformed none
-unplanned_says why.TooManyRecords = refused Refusal.full none
-unplanned_says (why.ChildCount i) = refused Refusal.child_count (some i)
-unplanned_says (why.NotThere i) = refused Refusal.not_there (some i)
-unplanned_says why.Lost = refused Refusal.not_there none
-unplanned_says (why.Cycle i) = refused Refusal.cycle (some i)
-unplanned_says why.BitCounts = refused Refusal.bits none
-unplanned_says why.CountsDisagree = refused Refusal.counts none
-unplanned_says why.NoDimension = refused Refusal.no_dimension none
+unplanned_says u = refused (refusal_of u.refusal) (blame_of u.node)
 
 -- ── parts ────────────────────────────────────────────────────────────────────
 pub record ShapeAsked (b : List ℕ) (n m : ℕ) : Type 0 where
@@ -48,7 +42,7 @@ pub record ShapeAsked (b : List ℕ) (n m : ℕ) : Type 0 where
 abbrev pub ThereGiven : List ℕ → List ℕ → ℕ → ℕ → Bool → Type 0
 ThereGiven b w n m r = (l x : List ℕ) → r ≡ all_there b (tabled (Tabling w l x n m))
 
-abbrev pub ShapeGiven : List ℕ → List ℕ → List ℕ → ℕ → ℕ → Shape → Type 0
+abbrev pub ShapeGiven : List ℕ → List ℕ → List ℕ → ℕ → ℕ → Result (Unit {0}) Refused → Type 0
 ShapeGiven b w x n m r = (l : List ℕ) → shape_says r ≡ plan_shape b (tabled (Tabling w l x n m))
 
 -- ── a plan in tables ─────────────────────────────────────────────────────────
@@ -62,8 +56,8 @@ pub record Stands (b : List ℕ) (t : Tables) (ss ds cs : List ℕ) (k : Plan) :
 
 -- an answer told, which is x where there is a plan
 abbrev pub Tells : {A : Type 0} (b : List ℕ) (t : Tables) (ss ds cs : List ℕ) (x : A) (a : Answer A) → Planning → Type 0
-Tells b t ss ds cs x a (planning.Refused u) = a ≡ unplanned_says u
-Tells b t ss ds cs x a (planning.Planned k) = (a ≡ done x) × Stands b t ss ds cs k
+Tells b t ss ds cs x a (Err u) = a ≡ unplanned_says u
+Tells b t ss ds cs x a (Ok k) = (a ≡ done x) × Stands b t ss ds cs k
 
 -- tables of their sizes, every dimension of a cm 0
 pub record Blank (ss ds cs : List ℕ) : Type 0 where

@@ -1,11 +1,12 @@
 // The plan of a pool as frames. The caller vouches for nothing.
 ghost use Rattle.planning.specs.Answers.{ReadAsked, ReadGiven, FramesAsked, FramesGiven};
 
-use crate::answer::{Planning, Unplanned};
+use crate::answer::Plan;
 use crate::pool_plan::plan_pool;
-use frames::count::{Counts, EXPRESSION_LIMIT, NODE_LIMIT, REQUEST_LIMIT, Reading};
+use frames::count::{Counts, EXPRESSION_LIMIT, NODE_LIMIT, REQUEST_LIMIT};
 use frames::read::fill;
 use frames::tables::NODE_WORDS;
+use kinds::refusal::{Refusal, Refused};
 use plans::check::is_plan;
 use plans::count::fits;
 use sections::map_section::RECORD_LIMIT;
@@ -20,18 +21,18 @@ fn plan_read(
     sections: &mut [u16; RECORD_LIMIT],
     dims: &mut [u16; RECORD_LIMIT],
     cmdims: &mut [u16],
-) -> Planning
+) -> Result<Plan, Refused>
     requires { ReadAsked c sections.old dims.old cmdims.old }
     ensures { ReadGiven plan.now well_formed nodes.now expressions.now c sections.new dims.new cmdims.new result }
 {
     if !is_plan(plan) {
-        return Planning::Refused(Unplanned::IllFormed);
+        return Err(Refusal::Malformed.into());
     }
     if !fits(plan) {
-        return Planning::Refused(Unplanned::TooManyRecords);
+        return Err(Refusal::Full.into());
     }
     if !well_formed {
-        return Planning::Refused(Unplanned::IllFormed);
+        return Err(Refusal::Malformed.into());
     }
     plan_pool(plan, nodes, expressions, c, sections, dims, cmdims)
 }
@@ -47,26 +48,21 @@ pub fn plan_frames(
     sections: &mut [u16; RECORD_LIMIT],
     dims: &mut [u16; RECORD_LIMIT],
     cmdims: &mut [u16],
-) -> Planning
+) -> Result<Plan, Refused>
     requires { FramesAsked nodes.old expressions.old sections.old dims.old cmdims.old }
     ensures { FramesGiven s.now plan.now well_formed nodes.new expressions.new sections.new dims.new cmdims.new result }
 {
     let mut literals = [0u64; NODE_LIMIT];
     let mut requests = [0u64; REQUEST_LIMIT];
-    match fill(s, nodes, &mut literals, expressions, &mut requests) {
-        Reading::Malformed(b) => Planning::Refused(Unplanned::Malformed(b)),
-        Reading::Full(b) => Planning::Refused(Unplanned::Limit(b)),
-        Reading::Read(c) => {
-            plan_read(
-                plan,
-                well_formed,
-                nodes,
-                expressions,
-                c,
-                sections,
-                dims,
-                cmdims,
-            )
-        }
-    }
+    let c = fill(s, nodes, &mut literals, expressions, &mut requests)?;
+    plan_read(
+        plan,
+        well_formed,
+        nodes,
+        expressions,
+        c,
+        sections,
+        dims,
+        cmdims,
+    )
 }

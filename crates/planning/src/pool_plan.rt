@@ -2,15 +2,16 @@
 ghost use Rattle.pool.specs.Entries.{entries_in};
 ghost use Rattle.planning.specs.Answers.{AdmittedAsked, AdmittedGiven, ShapedAsked, ShapedGiven, PoolAsked, PoolGiven};
 
-use crate::answer::{Plan, Planning, Unplanned};
+use crate::answer::Plan;
 use crate::records::some_none;
 use crate::shape::plan_shape;
 use frames::count::{Counts, EXPRESSION_LIMIT};
 use frames::tables::NODE_WORDS;
+use kinds::refusal::{Refusal, Refused};
 use map_records::all::map_all;
 use plans::agree::{bits_good, counts_agree};
 use plans::layout::{NUMBER_SIZE, q2exp_at};
-use pool::admit::{Shape, Verdict, ranked};
+use pool::admit::ranked;
 use sections::map_section::RECORD_LIMIT;
 
 // An admitted pool: 16, 11 and 12.
@@ -23,24 +24,23 @@ fn plan_admitted(
     sections: &mut [u16; RECORD_LIMIT],
     dims: &mut [u16; RECORD_LIMIT],
     cmdims: &mut [u16],
-) -> Planning
+) -> Result<Plan, Refused>
     requires { AdmittedAsked plan.now nodes.now expressions.now (entries_in table.now) m sections.old dims.old cmdims.old }
     ensures { AdmittedGiven plan.now nodes.now expressions.now (entries_in table.now) m sections.old dims.old cmdims.old sections.new dims.new cmdims.new result }
 {
     if !bits_good(plan) {
-        return Planning::Refused(Unplanned::BitCounts);
+        return Err(Refusal::Bits.into());
     }
     if !counts_agree(plan) {
-        return Planning::Refused(Unplanned::CountsDisagree);
+        return Err(Refusal::Counts.into());
     }
     let records = map_all(plan, nodes, expressions, table, sections, dims, cmdims);
-    let count = records.count;
-    if some_none(dims, count) {
-        return Planning::Refused(Unplanned::NoDimension);
+    if some_none(dims, records.count) {
+        return Err(Refusal::NoDimension.into());
     }
-    Planning::Planned(Plan {
+    Ok(Plan {
         expressions: m,
-        records: count,
+        records: records.count,
         q_dim: records.q_dim,
     })
 }
@@ -55,21 +55,12 @@ fn plan_shaped(
     sections: &mut [u16; RECORD_LIMIT],
     dims: &mut [u16; RECORD_LIMIT],
     cmdims: &mut [u16],
-) -> Planning
+) -> Result<Plan, Refused>
     requires { ShapedAsked plan.now nodes.now expressions.now (entries_in table.now) m sections.old dims.old cmdims.old }
     ensures { ShapedGiven plan.now nodes.now expressions.now (entries_in table.now) m sections.old dims.old cmdims.old sections.new dims.new cmdims.new result }
 {
-    let admission = ranked(nodes, expressions, table, m);
-    let verdict = admission.verdict;
-    match verdict {
-        Verdict::ChildCount(i) => Planning::Refused(Unplanned::ChildCount(i)),
-        Verdict::NotThere(i) => Planning::Refused(Unplanned::NotThere(i)),
-        Verdict::LostRoot => Planning::Refused(Unplanned::Lost),
-        Verdict::Cycle(i) => Planning::Refused(Unplanned::Cycle(i)),
-        Verdict::Admitted => {
-            plan_admitted(plan, nodes, expressions, table, m, sections, dims, cmdims)
-        }
-    }
+    ranked(nodes, expressions, table, m)?;
+    plan_admitted(plan, nodes, expressions, table, m, sections, dims, cmdims)
 }
 
 // The tables of records are the caller's, with every dimension of a cm 0. The expressions of q numbers are read where they stand, at the plan's end.
@@ -81,25 +72,19 @@ pub fn plan_pool(
     sections: &mut [u16; RECORD_LIMIT],
     dims: &mut [u16; RECORD_LIMIT],
     cmdims: &mut [u16],
-) -> Planning
+) -> Result<Plan, Refused>
     requires { PoolAsked plan.now c sections.old dims.old cmdims.old }
     ensures { PoolGiven plan.now nodes.now expressions.now c sections.new dims.new cmdims.new result }
 {
-    match plan_shape(plan, nodes, expressions, c.nodes, c.expressions) {
-        Shape::ChildCount(i) => Planning::Refused(Unplanned::ChildCount(i)),
-        Shape::NotThere(i) => Planning::Refused(Unplanned::NotThere(i)),
-        Shape::LostRoot => Planning::Refused(Unplanned::Lost),
-        Shape::Fine => {
-            plan_shaped(
-                plan,
-                nodes,
-                expressions,
-                &plan[NUMBER_SIZE * q2exp_at(plan)..],
-                c.expressions,
-                sections,
-                dims,
-                cmdims,
-            )
-        }
-    }
+    plan_shape(plan, nodes, expressions, c.nodes, c.expressions)?;
+    plan_shaped(
+        plan,
+        nodes,
+        expressions,
+        &plan[NUMBER_SIZE * q2exp_at(plan)..],
+        c.expressions,
+        sections,
+        dims,
+        cmdims,
+    )
 }

@@ -4,9 +4,10 @@ ghost use Rattle.planning.specs.Answers.{ShapeAsked, ShapeGiven, ThereGiven};
 
 use frames::count::EXPRESSION_LIMIT;
 use frames::tables::NODE_WORDS;
+use kinds::refusal::{Refusal, Refused};
 use plans::layout::{cm_count, q2exp_count};
 use plans::there::{leaves_there, names_there};
-use pool::admit::{Shape, shape_of};
+use pool::admit::shape_of;
 
 fn all_there(plan: &[u8], nodes: &[u64; NODE_WORDS], n: usize, m: usize) -> bool
     requires { ShapeAsked plan.now n m }
@@ -25,20 +26,13 @@ pub fn plan_shape(
     expressions: &[u64; EXPRESSION_LIMIT],
     n: usize,
     m: usize,
-) -> Shape
+) -> Result<(), Refused>
     requires { ShapeAsked plan.now n m }
     ensures { ShapeGiven plan.now nodes.now expressions.now n m result }
 {
-    match shape_of(nodes, expressions, n, m) {
-        Shape::ChildCount(i) => Shape::ChildCount(i),
-        Shape::NotThere(i) => Shape::NotThere(i),
-        Shape::LostRoot => Shape::LostRoot,
-        Shape::Fine => {
-            if all_there(plan, nodes, n, m) {
-                Shape::Fine
-            } else {
-                Shape::LostRoot
-            }
-        }
+    shape_of(nodes, expressions, n, m)?;
+    if all_there(plan, nodes, n, m) {
+        return Ok(());
     }
+    Err(Refusal::NotThere.into())
 }

@@ -1,31 +1,31 @@
 -- From the shape and the ranks to the verdict.
 -- Assumes nothing.
 use Prim.Native.Nat.{ℕ, ◌<◌}
-use mathlib.Core.Path.{◌≡◌, refl, sym, ◌∙◌, ap, subst}
-use mathlib.Core.Bool.{Bool, true, false}
+use mathlib.Core.Path.{◌≡◌, refl, sym, ◌∙◌, subst}
 use mathlib.Core.Option.{Option}
 use mathlib.Core.List.{List}
 use mathlib.Core.Logic.{inl, inr, ⊎_elim}
 use native.Mathlib.Omega.{arith}
+use Rattle.std.specs.Prelude.{Ok, Err}
+use Rattle.kinds.specs.Answers.{blaming_node}
+use Rattle.kinds.specs.declared.refusal.Refused.{Refused}
+use Rattle.kinds.specs.declared.refusal.Refusal.TheVariants.{Cycle}
 use Rattle.meaning.specs.Refusals.{Refusal, Answer, done, refused}
-use Rattle.meaning.proofs.Laws.Tests.{true-false, done-not-refused}
+use Rattle.meaning.proofs.Laws.Tests.{done-not-refused}
 use Rattle.meaning.specs.Trees.{◌at◌, leaves}
 use Rattle.pool.specs.Pool.{Pool, root_of}
 use Rattle.pool.specs.Trees.{tree}
 use Rattle.pool.specs.Shaped.{Shaped}
 use Rattle.pool.specs.Admission.{shape, ClosedWalk, LeadsBack, OnCycle, FirstOnCycle, Ranked}
 use Rattle.pool.specs.Tabled.{Tables, tabled}
-use Rattle.pool.specs.Ranking.{Starts, rank_in, Outcome}
+use Rattle.pool.specs.Ranking.{Starts, rank_in}
 use Rattle.pool.specs.Cycles.{LeastOf}
-use Rattle.pool.specs.Admitting.{Fits, Admits, bare, verdict_says}
+use Rattle.pool.specs.Admitting.{Fits, Admits, verdict_says}
 use Rattle.pool.specs.Laws.Shape as shapes
 use Rattle.pool.specs.Laws.Members.{member-each}
 use Rattle.pool.specs.Laws.Tabled.{node-count}
 use Rattle.pool.specs.Laws.Walks.{OfNode, of_node}
 use Rattle.pool.specs.Laws.Cycles.{closed_on}
-use Rattle.pool.specs.declared.admit.Verdict.{Verdict}
-use Rattle.pool.specs.declared.admit.Verdict.TheVariants as verdict
-use Rattle.pool.specs.declared.admit.Admission.{Admission}
 
 -- a pool with no refusal 2 or 3 has its shape
 pub fine-shaped : (p : Pool) → done tt ≡ shape p → Shaped p
@@ -39,15 +39,14 @@ fine-shaped p h = go (shape p) h (shapes.shape_is p)
 
 module _ (t : Tables) (table : List ℕ) where
   -- a refusal of the shape is the verdict
-  pub refused-is : {v : Verdict} {r : Refusal} {n : Option ℕ} → verdict_says v ≡ refused r n → refused r n ≡ shape (tabled t) → {a : Admission} → a ≡ bare v → Admits t table a
-  refused-is {v} {r} {n} e h q = subst (Admits t table) (sym q) (record {
+  pub refused-is : {f : Refused} → verdict_says (Err f) ≡ shape (tabled t) → Admits t table (Err f)
+  refused-is h = record {
     judged = record {
-      refuses = λ r' n' k. e ∙ h ∙ k;
+      refuses = λ r n k. h ∙ k;
       decides = λ k. absurd (done-not-refused (sym k ∙ sym h));
     };
-    ranked = λ k. absurd (done-not-refused (sym (ap verdict_says k) ∙ e));
-    blank = λ k. refl;
-  })
+    ranked = λ s q. absurd (let z : ◌≡◌ {A = ℕ} 0 1 = cc in omega arith);
+  }
 
   -- a pool with its shape: a closed walk, or ranks
   pub starts : done tt ≡ shape (tabled t) → Fits table t.node_count t.expression_count → Starts t table
@@ -78,25 +77,20 @@ module _ (t : Tables) (table : List ℕ) where
           let o = member-each (OfNode p) (leaves (tree p r)) (of_node p a.shaped r (a.shaped.rooted b.expression b.source)) (b.leaf at m) b.stands in
           omega (arith, subst (λ k. m < k) (node-count t) o.0, a.few_nodes)
 
-  pub cyclic_is :
-      Starts t table → {b : Bool} (s : List ℕ) → Outcome t table b s → b ≡ true → {n : ℕ} → LeastOf (OnCycle (tabled t) table) 4096 n → {r : Admission} → r ≡ bare (verdict.Cycle n) → Admits t table r
-  cyclic_is a {b} s o h {n} f q = subst (Admits t table) (sym q) (record {
+  pub cyclic_is : Starts t table → ClosedWalk (tabled t) table → {n : ℕ} → LeastOf (OnCycle (tabled t) table) 4096 n → Admits t table (Err (blaming_node Cycle n))
+  cyclic_is a w {n} f = record {
     judged = record {
       refuses = λ r n k. absurd (shape-done a.shaped r n k);
-      decides = λ k. inl (n, refl, first_leaf a (⊎_elim (λ w. w.1) (λ w. absurd (true-false h w.0)) o) f);
+      decides = λ k. inl (n, refl, first_leaf a w f);
     };
-    ranked = λ k. absurd (let z : ◌≡◌ {A = ℕ} 0 1 = cc in omega arith);
-    blank = λ k. refl;
-  })
+    ranked = λ s q. absurd (let z : ◌≡◌ {A = ℕ} 0 1 = cc in omega arith);
+  }
 
-  pub ranked-is : Starts t table → {b : Bool} {s : List ℕ} → Outcome t table b s → b ≡ false → Admits t table (record { verdict = verdict.Admitted; ranks = s })
-  ranked-is a {b} {s} o h =
-      let r : Ranked (tabled t) table (rank_in s) = ⊎_elim (λ w. absurd (true-false w.0 h)) (λ w. w.1) o in
-      record {
-        judged = record {
-          refuses = λ r n k. absurd (shape-done a.shaped r n k);
-          decides = λ k. inr (refl, (rank_in s, r));
-        };
-        ranked = λ k. r;
-        blank = λ k. absurd (k refl);
-      }
+  pub ranked-is : Starts t table → {s : List ℕ} → Ranked (tabled t) table (rank_in s) → Admits t table (Ok s)
+  ranked-is a {s} r = record {
+    judged = record {
+      refuses = λ r n k. absurd (shape-done a.shaped r n k);
+      decides = λ k. inr (refl, (rank_in s, r));
+    };
+    ranked = λ u q. let e : s ≡ u = cc in subst (λ v. Ranked (tabled t) table (rank_in v)) e r;
+  }

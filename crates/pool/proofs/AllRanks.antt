@@ -7,15 +7,16 @@ use mathlib.Core.Logic.{⊎_elim}
 use native.Mathlib.Omega.{arith}
 use native.Mathlib.Nat.{eq-or-lt_of_le}
 use lib.ListN.{get_or, replicate, length-replicate}
+use Rattle.std.specs.Prelude.{Option, Some}
 use Rattle.meaning.specs.Trees.{leaves}
 use Rattle.pool.specs.Pool.{Pool, root_of}
 use Rattle.pool.specs.Trees.{tree}
 use Rattle.pool.specs.Admission.{leads_to, Ranked}
 use Rattle.pool.specs.Tabled.{Tables, tabled}
-use Rattle.pool.specs.Ranking.{count_below, pending, State, AsksVisit, Gives, cycle_found, Starts, rank_in}
+use Rattle.pool.specs.Ranking.{count_below, pending, State, AsksVisit, Gives, Starts, rank_in}
 use Rattle.pool.specs.Laws.Members.{member-each}
 use Rattle.pool.specs.Laws.Tabled.{expression-count}
-use Rattle.pool.proofs.Ranks.{later-ranked, later-followed, ranked-not}
+use Rattle.pool.proofs.Ranks.{later-ranked, later-followed, ranked-some}
 
 -- a table of ranks in which nothing is reached
 pub zero-at : (n i : ℕ) → get_or {A = ℕ} (replicate n 0) i 0 ≡ 0
@@ -59,13 +60,13 @@ module _ (t : Tables) (table : List ℕ) where
     pub asks : e < t.expression_count → AsksVisit t table s done e
     asks l = record { state = a.state; there = l; follows = λ g h. absurd (a.quiet g h) }
 
-    pub advance : {s' : List ℕ} {r : ℕ} → Gives t table s s' r (2 ≤ get_or s' e 0) → (r ≡ cycle_found → ⊥) → Progress s' r (e + 1)
-    advance {s'} g n =
-        let k = ranked-not t table g n in
+    pub advance : {s' : List ℕ} {r : Option ℕ} → Gives t table s s' r (2 ≤ get_or s' e 0) → {d : ℕ} → r ≡ Some d → Progress s' d (e + 1)
+    advance {s'} g q =
+        let k = ranked-some t table g q in
         record {
           state = k.state;
           quiet = λ j h. a.quiet j (later-followed s s' k.later j h);
-          ranked = λ j l. ⊎_elim (λ q. subst (λ i. 2 ≤ get_or s' i 0) (sym q) k.goal) (λ q. later-ranked s s' k.later j (a.ranked j q)) (eq-or-lt_of_le (let z : j ≤ e = omega arith in z));
+          ranked = λ j l. ⊎_elim (λ w. subst (λ i. 2 ≤ get_or s' i 0) (sym w) k.goal) (λ w. later-ranked s s' k.later j (a.ranked j w)) (eq-or-lt_of_le (let z : j ≤ e = omega arith in z));
         }
 
     pub finish : t.expression_count ≤ e → Ranked p table (rank_in s)

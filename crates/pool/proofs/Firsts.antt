@@ -1,30 +1,52 @@
--- A loop that looks for the first number of which a test holds: nothing below i has it.
+-- Looking for the first number of which a test holds.
 -- Assumes nothing.
-use Prim.Native.Nat.{ℕ, suc, ◌+◌, ◌<◌, ◌≤◌}
-use mathlib.Core.Path.{◌≡◌, sym, ◌∙◌, ap}
+use Prim.Native.Nat.{ℕ, ◌<◌, ◌≤◌}
+use lib.ListN.{length, get_or, take, length-take}
+use Rattle.std.proofs.Common.{get_or-take}
+use Rattle.std.specs.List.{AllWithin, HoldsAt}
+use mathlib.Core.List.{List}
+use mathlib.Core.Path.{◌≡◌, sym, ap, ◌∙◌}
 use mathlib.Core.Bool.{Bool, true, false}
-use mathlib.Core.Option.{none, some}
-use mathlib.Core.Logic.{⊎_elim}
 use native.Mathlib.Omega.{arith}
-use native.Mathlib.Nat.{eq-or-lt_of_le, le_of_suc-le-suc}
+use Rattle.std.specs.Prelude.{Option, Some, None, MatchOption}
 use Rattle.pool.specs.Admission.{first}
+use Rattle.pool.specs.Shapes.{found_at}
 use Rattle.pool.specs.Laws.First.{found, none_found}
 
-pub record Passed (f : ℕ → Bool) (n i : ℕ) : Type 0 where
-  pub within : i ≤ n
-  pub none : (j : ℕ) → j < i → f j ≡ false
+-- what `find` over the numbers below n answers
+pub first_by :
+    (f : ℕ → Bool) (n : ℕ) (r : Option ℕ)
+    → MatchOption r
+    ((k : ℕ) → 0 ≤ k → k < n → f k ≡ false)
+    (λ i. (0 ≤ i) × (i < n) × (f i ≡ true) × ((k : ℕ) → 0 ≤ k → k < i → f k ≡ false))
+    → found_at r ≡ first f n
+first_by f n None h = sym (none_found f 0 n (λ j a b. h j a (omega arith)))
+first_by f n (Some i) h = sym (found f 0 n i (record { low = h.0; high = omega (arith, h.1); holds = h.2; least = h.3 }))
 
-pub passed_none : (f : ℕ → Bool) (n : ℕ) → Passed f n 0
-passed_none f n = record { within = omega arith; none = λ j l. absurd (omega arith) }
+-- what `position` among the first n elements answers
+pub first_in :
+    (g : ℕ → Bool) (l : List ℕ) (n : ℕ) (r : Option ℕ) → n ≤ length l
+    → MatchOption r
+    (AllWithin (λ b. g b ≡ false) (take n l) 0 (length (take n l)))
+    (λ i. (i < length (take n l)) × HoldsAt (λ b. g b ≡ true) (take n l) i × AllWithin (λ b. g b ≡ false) (take n l) 0 i)
+    → found_at r ≡ first (λ k. g (get_or l k 0)) n
+first_in g l n r few h = first_by (λ k. g (get_or l k 0)) n r (by r h)
+  where
+    all : length (take n l) ≡ n
+    all = simp length-take (omega arith)
 
-pub passed-more : {f : ℕ → Bool} {n i : ℕ} → Passed f n i → i < n → f i ≡ false → Passed f n (i + 1)
-passed-more {f} {n} {i} p l h = record {
-  within = omega arith;
-  none = λ j k. ⊎_elim (λ e. ap f e ∙ h) (λ q. p.none j q) (eq-or-lt_of_le (le_of_suc-le-suc (let z : suc j ≤ suc i = omega arith in z)));
-}
+    at : (k : ℕ) → k < n → get_or (take n l) k 0 ≡ get_or l k 0
+    at k j = get_or-take n l k 0 j
 
-pub passed-found : {f : ℕ → Bool} {n i : ℕ} → Passed f n i → i < n → f i ≡ true → some i ≡ first f n
-passed-found {f} {n} {i} p l h = sym (found f 0 n i (record { low = omega arith; high = omega arith; holds = h; least = λ j a b. p.none j b }))
-
-pub passed-all : {f : ℕ → Bool} {n i : ℕ} → Passed f n i → n ≤ i → none ≡ first f n
-passed-all {f} {n} {i} p l = sym (none_found f 0 n (λ j a b. p.none j (omega arith)))
+    by :
+        (r : Option ℕ)
+        → MatchOption r
+        (AllWithin (λ b. g b ≡ false) (take n l) 0 (length (take n l)))
+        (λ i. (i < length (take n l)) × HoldsAt (λ b. g b ≡ true) (take n l) i × AllWithin (λ b. g b ≡ false) (take n l) 0 i)
+        → MatchOption r
+        ((k : ℕ) → 0 ≤ k → k < n → g (get_or l k 0) ≡ false)
+        (λ i. (0 ≤ i) × (i < n) × (g (get_or l i 0) ≡ true) × ((k : ℕ) → 0 ≤ k → k < i → g (get_or l k 0) ≡ false))
+    by None h = λ k a j. ap g (sym (at k j)) ∙ h k 0 a (omega (arith, all))
+    by (Some i) h =
+        let j : i < n = omega (arith, h.0, all) in
+        (omega arith, j, ap g (sym (at i j)) ∙ h.1 0, λ k a m. ap g (sym (at k (omega arith))) ∙ h.2 k 0 a m)

@@ -11,6 +11,7 @@ use lib.ListN.{length, get_or, set, length-set}
 use lib.Seq.{get_or-set_same, get_or-set_other}
 use lib.Dec.{eqb}
 use borrow.Author.Tests.{lt-ltb, le-ltb, eqb-true, eqb-false}
+use Rattle.std.specs.Prelude.{Option, Some, None}
 use Rattle.meaning.specs.Trees.{Placed, leaves, Member}
 use Rattle.meaning.proofs.Laws.Tests.{each_both}
 use Rattle.pool.specs.Words.{root_in}
@@ -18,7 +19,7 @@ use Rattle.pool.specs.Pool.{Pool, root_of}
 use Rattle.pool.specs.Trees.{tree}
 use Rattle.pool.specs.Admission.{leads_to, Edge, Walk, ClosedWalk}
 use Rattle.pool.specs.Tabled.{Tables, tabled}
-use Rattle.pool.specs.Ranking.{cycle_found, count_below, pending, zeros, Later, Leads, Sound, State, Follows, AsksVisit, AsksWalk, Ranks, Gives}
+use Rattle.pool.specs.Ranking.{count_below, pending, zeros, Later, Leads, Sound, State, Follows, AsksVisit, AsksWalk, Ranks, Gives}
 use Rattle.pool.specs.Laws.Members.{each_member}
 use Rattle.pool.specs.Laws.Tabled.{root-at}
 use Rattle.pool.proofs.Counts.{zeros-set, count_same, count_less}
@@ -69,20 +70,19 @@ module _ (t : Tables) (table : List ℕ) where
   follow_less s s' f u h g k = h g (later-followed s s' f g k)
 
   -- an answer that is no cycle's, and one that is
-  pub ranked-not : {s s' : List ℕ} {r : ℕ} {Goal : Type 0} → Gives t table s s' r Goal → (r ≡ cycle_found → ⊥) → Ranks t table s s' r Goal
-  ranked-not (inl h) n = absurd (n h.0)
-  ranked-not (inr h) n = h
+  pub ranked-some : {s s' : List ℕ} {r : Option ℕ} {Goal : Type 0} → Gives t table s s' r Goal → {d : ℕ} → r ≡ Some d → Ranks t table s s' d Goal
+  ranked-some (inl h) q = absurd (let z : ◌≡◌ {A = ℕ} 0 1 = cc in omega arith)
+  ranked-some {s = s} {s' = s'} {r = r} {Goal = Goal} (inr h) {d = d} q = let e : h.0 ≡ d = cc in subst (λ j. Ranks t table s s' j Goal) e h.2
 
-  pub cycle-is : {s s' : List ℕ} {r : ℕ} {Goal : Type 0} → Gives t table s s' r Goal → r ≡ cycle_found → ClosedWalk p table
+  pub cycle-is : {s s' : List ℕ} {r : Option ℕ} {Goal : Type 0} → Gives t table s s' r Goal → r ≡ None → ClosedWalk p table
   cycle-is (inl h) q = h.1
-  cycle-is (inr h) q = absurd (omega (arith, few-ranked h.state, q))
+  cycle-is (inr h) q = absurd (let z : ◌≡◌ {A = ℕ} 0 1 = cc in omega arith)
 
-  pub few-after : {s s' : List ℕ} {r : ℕ} {Goal : Type 0} → Gives t table s s' r Goal → (r ≡ cycle_found → ⊥) → r ≤ 512
-  few-after (inl h) n = absurd (n h.0)
-  few-after (inr h) n = few-ranked h.state
+  pub few-after : {s s' : List ℕ} {r : Option ℕ} {Goal : Type 0} → Gives t table s s' r Goal → {d : ℕ} → r ≡ Some d → d ≤ 512
+  few-after g q = few-ranked (ranked-some g q).state
 
-  pub still : {s : List ℕ} {done : ℕ} {Goal : Type 0} → State t table s done → Goal → Gives t table s s done Goal
-  still {s} a g = inr (record { state = a; later = later_refl s; goal = g })
+  pub still : {s : List ℕ} {done : ℕ} {Goal : Type 0} → State t table s done → Goal → Gives t table s s (Some done) Goal
+  still {s} {done} a g = inr (done, refl, record { state = a; later = later_refl s; goal = g })
 
   -- ── visit ──────────────────────────────────────────────────────────────────
   module _ {s : List ℕ} {done e : ℕ} (a : AsksVisit t table s done e) where
@@ -251,5 +251,5 @@ module _ (t : Tables) (table : List ℕ) where
                 let y = at_other s e 1 inside j n in
                 ⊎_elim (λ u. inl (x ∙ u ∙ y)) (λ u. inr (sym y ∙ u.0, omega (arith, x, u.1))) (k.later j)
 
-        pub leave : Gives t table s s3 (before + 1) (2 ≤ get_or s3 e 0)
-        leave = inr (record { state = left; later = left-later; goal = omega (arith, at-e) })
+        pub leave : Gives t table s s3 (Some (before + 1)) (2 ≤ get_or s3 e 0)
+        leave = inr (before + 1, refl, record { state = left; later = left-later; goal = omega (arith, at-e) })

@@ -2,8 +2,14 @@
 -- Assumes nothing.
 use Prim.Native.Nat.{ℕ, zero, suc, ◌+◌, ◌<◌, ◌≤◌, min}
 use mathlib.Core.Path.{◌≡◌, refl, sym, ◌∙◌, ap, ap₂}
-use mathlib.Core.Bool.{Bool, true, false, not, ◌&&◌}
-use mathlib.Core.Option.{none, some}
+use mathlib.Core.Bool.{true≢false, Bool, true, false, not, ◌&&◌}
+use mathlib.Core.Option.{Option, none, some}
+use Rattle.std.specs.Prelude as std
+use Rattle.std.specs.Prelude.{Result, Ok, Err, Some, None, is_some}
+use Rattle.kinds.specs.Answers.{refusal_of, blame_of}
+use Rattle.kinds.specs.declared.refusal.Refused.{Refused}
+use Rattle.meaning.proofs.Laws.Tests.{done-not-refused}
+use Rattle.pool.specs.Admitting.{shape_says}
 use mathlib.Core.List.{List, [], ◌∷◌, ◌++◌, append_assoc, append-nil}
 use native.Mathlib.Omega.{arith}
 use lib.ListN.{length, replicate, length-replicate}
@@ -17,9 +23,9 @@ use Rattle.pool.specs.Words.{root_in}
 use Rattle.kinds.specs.KindBytes as kind
 use Rattle.kinds.specs.Kinds.{child_count}
 use Rattle.pool.specs.Pool.{Pool, children, child_uses, root_uses, uses, times}
-use Rattle.pool.specs.Admission.{first_from, first, some_from, wrong_count, late_child, used_twice, lost_leaf, lost_root, shape}
+use Rattle.pool.specs.Admission.{first_from, first, some_from, wrong_count, late_child, used_twice, lost_leaf, lost_root, unless, shape}
 use Rattle.pool.specs.Tabled.{Tables, tabled, children_in}
-use Rattle.pool.specs.Shapes.{wrong_in, late_in, twice_in, lost_in, lost_root_in, child_uses_in, root_uses_in, Tallied, Tallies}
+use Rattle.pool.specs.Shapes.{found_at, wrong_in, late_in, twice_in, lost_in, lost_root_in, child_uses_in, root_uses_in, Tallied, Tallies}
 use Rattle.pool.specs.Laws.Tabled.{node-count, expression-count, node_at, root-at}
 use Rattle.pool.proofs.AllRanks.{zero-at}
 use Rattle.pool.proofs.Tally.{tallies_both}
@@ -61,6 +67,31 @@ two-of-min a = go (leb 2 a) refl
 -- a table in which nothing is counted
 pub none-tallied : Tallied (replicate 4096 0) []
 none-tallied = record { size = length-replicate {A = ℕ} 4096 0; counts = λ k l. zero-at 4096 k }
+
+-- the refusal of a number that was found
+abbrev pub Stops : Refusal → Option ℕ → Refusal → Option ℕ → Type 0
+Stops k o r b = unless k some o ≡ refused r b
+
+-- what `unless` answered: nothing was found, or the refusal
+module _ (k : Refusal) {o o' : Option ℕ} {a : Result (Unit {0}) Refused} (h : shape_says a ≡ unless k some o) (e : o ≡ o') where
+  pub passed : {u : Unit {0}} → a ≡ Ok u → none ≡ o'
+  passed q = by o' (rw (q, e) at h)
+    where
+      by : (o : Option ℕ) → done tt ≡ unless k some o → none ≡ o
+      by none z = refl
+      by (some i) z = absurd (done-not-refused z)
+
+  pub stopped : {f : Refused} → a ≡ Err f → Stops k o' (refusal_of f.refusal) (blame_of f.node)
+  stopped q = sym (rw (q, e) at h)
+
+-- what is found, where something is
+pub some-found : (r : std.Option ℕ) {o : Option ℕ} → found_at r ≡ o → is_some r ≡ true → (k : ℕ) × (some k ≡ o)
+some-found None e q = absurd (true≢false (sym q))
+some-found (Some k) e q = (k, e)
+
+pub none-at : (r : std.Option ℕ) {o : Option ℕ} → found_at r ≡ o → is_some r ≡ false → none ≡ o
+none-at None e q = e
+none-at (Some k) e q = absurd (true≢false q)
 
 module _ (t : Tables) where
   abbrev p : Pool
@@ -104,14 +135,14 @@ module _ (t : Tables) where
 
     -- what was found, one test after another
     module _ (q1 : none ≡ first (wrong_in t.nodes) t.node_count) (q2 : none ≡ first (late_in t.nodes) t.node_count) where
-      pub shape_twice : {k : ℕ} → some k ≡ first (twice_in u2) t.node_count → refused Refusal.not_there (some k) ≡ shape p
+      pub shape_twice : {r : Refusal} {b : Option ℕ} → Stops Refusal.not_there (first (twice_in u2) t.node_count) r b → refused r b ≡ shape p
       unfolding shape
-      shape_twice h = sym (rw (wrong_are ∙ sym q1, late_are ∙ sym q2, twice_are ∙ sym h))
+      shape_twice h = sym (rw (wrong_are ∙ sym q1, late_are ∙ sym q2, twice_are, h))
 
       module _ (q3 : none ≡ first (twice_in u2) t.node_count) where
-        pub shape-lost : {k : ℕ} → some k ≡ first (lost_in t.nodes t.expression_count) t.node_count → refused Refusal.not_there (some k) ≡ shape p
+        pub shape-lost : {r : Refusal} {b : Option ℕ} → Stops Refusal.not_there (first (lost_in t.nodes t.expression_count) t.node_count) r b → refused r b ≡ shape p
         unfolding shape
-        shape-lost h = sym (rw (wrong_are ∙ sym q1, late_are ∙ sym q2, twice_are ∙ sym q3, lost_are ∙ sym h))
+        shape-lost h = sym (rw (wrong_are ∙ sym q1, late_are ∙ sym q2, twice_are ∙ sym q3, lost_are, h))
 
         module _ (q4 : none ≡ first (lost_in t.nodes t.expression_count) t.node_count) where
           pub shape-root : {k : ℕ} → some k ≡ first (lost_root_in t.expressions t.node_count) t.expression_count → refused Refusal.not_there none ≡ shape p
@@ -122,10 +153,12 @@ module _ (t : Tables) where
           unfolding shape
           shape-fine h = sym (rw (wrong_are ∙ sym q1, late_are ∙ sym q2, twice_are ∙ sym q3, lost_are ∙ sym q4, roots_are ∙ sym h))
 
-  pub shape-wrong : {k : ℕ} → some k ≡ first (wrong_in t.nodes) t.node_count → refused Refusal.child_count (some k) ≡ shape p
+  pub shape-wrong : {r : Refusal} {b : Option ℕ} → Stops Refusal.child_count (first (wrong_in t.nodes) t.node_count) r b → refused r b ≡ shape p
   unfolding shape
-  shape-wrong h = sym (rw (wrong_are ∙ sym h))
+  shape-wrong h = sym (rw (wrong_are, h))
 
-  pub shape-late : none ≡ first (wrong_in t.nodes) t.node_count → {k : ℕ} → some k ≡ first (late_in t.nodes) t.node_count → refused Refusal.not_there (some k) ≡ shape p
+  pub shape-late :
+      none ≡ first (wrong_in t.nodes) t.node_count → {r : Refusal} {b : Option ℕ} → Stops Refusal.not_there (first (late_in t.nodes) t.node_count) r b
+      → refused r b ≡ shape p
   unfolding shape
-  shape-late q h = sym (rw (wrong_are ∙ sym q, late_are ∙ sym h))
+  shape-late q h = sym (rw (wrong_are ∙ sym q, late_are, h))

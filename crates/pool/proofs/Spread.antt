@@ -1,13 +1,11 @@
 -- What the leaves of a node's tree mark, by the node: a leaf, or an operation's children one after another.
 -- Assumes nothing.
-use Prim.Native.Nat.{ℕ, ◌<◌, ◌≤◌, min}
+use Prim.Native.Nat.{ℕ, ◌<◌, ◌≤◌}
 use mathlib.Core.Path.{◌≡◌, sym, ◌∙◌, ap, subst}
-use mathlib.Core.Bool.{cond}
 use mathlib.Core.Option.{none, some}
 use mathlib.Core.List.{List, [], ◌∷◌}
 use native.Mathlib.Omega.{arith}
 use lib.ListN.{length, get_or, set}
-use lib.Dec.{eqb}
 use borrow.Author.Tests.{eq-eqb, ne_eqb}
 use Rattle.meaning.specs.Trees.{◌at◌, leaves, Each, Member}
 use Rattle.frames.specs.declared.node.Node.{Node}
@@ -48,23 +46,6 @@ reach-new s v h = rw (eq-eqb (get_or s v 0) 0 h)
 
 pub reach-old : (s : List ℕ) (v : ℕ) → (get_or s v 0 ≡ 0 → ⊥) → s ≡ reach s v
 reach-old s v h = rw (ne_eqb (get_or s v 0) 0 h)
-
-module _ {w table : List ℕ} {u i : ℕ} {s : List ℕ} {b : ℕ} where
-  pub leaf-nowhere : none ≡ lead_in w table i → LeafGiven w table u i s b s b
-  leaf-nowhere h = record { marks = ap (λ o. mark o s) h; least = ap (λ o. nearer u o i b) h }
-
-  module _ {v : ℕ} (h : some v ≡ lead_in w table i) {s' : List ℕ} (q : s' ≡ reach s v) where
-    leaf-marks : {b' : ℕ} → b' ≡ cond (eqb v u) (min b i) b → LeafGiven w table u i s b s' b'
-    leaf-marks z = record { marks = q ∙ ap (λ o. mark o s) h; least = z ∙ ap (λ o. nearer u o i b) h }
-
-    pub leaf_elsewhere : (v ≡ u → ⊥) → LeafGiven w table u i s b s' b
-    leaf_elsewhere n = leaf-marks (rw (ne_eqb v u n))
-
-    pub leaf-later : v ≡ u → b ≤ i → LeafGiven w table u i s b s' b
-    leaf-later e l = leaf-marks (rw (eq-eqb v u e) (omega arith))
-
-    pub leaf-nearer : v ≡ u → i < b → LeafGiven w table u i s b s' i
-    leaf-nearer e l = leaf-marks (rw (eq-eqb v u e) (omega arith))
 
 -- ── a node's tree ────────────────────────────────────────────────────────────
 module _ {w l e : List ℕ} {n m : ℕ} {table : List ℕ} {i : ℕ} (a : Standing w l e n m table i) where

@@ -1,7 +1,7 @@
 -- Ranking expressions from leaf to leaf, depth first: what the two functions that call each other ask and give.
 -- A rank table holds for each expression 0 (not reached), 1 (its leaves are being followed), or its rank and 2.
 -- Assumes nothing: these are definitions.
-use Rattle.std.specs.Prelude.{ℕ, zero, suc, ◌+◌, ◌-◌, ◌<◌, ◌≤◌, ◌≡◌, Bool, true, false, cond, List, [], ◌∷◌, ◌⊎◌, length, get_or, ltb}
+use Rattle.std.specs.Prelude.{Option, Some, None, ℕ, zero, suc, ◌+◌, ◌-◌, ◌<◌, ◌≤◌, ◌≡◌, Bool, cond, List, [], ◌∷◌, ◌⊎◌, length, get_or, ltb}
 use Rattle.std.proofs.Math.Option.{some}
 use Rattle.frames.specs.Order.{node_limit, expression_limit}
 use Rattle.meaning.specs.Trees.{leaves, Each, Member}
@@ -10,10 +10,6 @@ use Rattle.pool.specs.Trees.{tree}
 use Rattle.pool.specs.Shaped.{Shaped}
 use Rattle.pool.specs.Admission.{leads_to, Walk, ClosedWalk, Ranked}
 use Rattle.pool.specs.Tabled.{Tables, tabled}
-
--- the answer of a walk that comes back to where it began; any other is how many expressions are ranked
-abbrev pub cycle_found : ℕ
-cycle_found = expression_limit + 1
 
 -- how many of the first m pass a test
 unfoldable pub count_below : (ℕ → Bool) → ℕ → ℕ
@@ -70,14 +66,15 @@ module _ (t : Tables) (table : List ℕ) where
     pub there : n < t.node_count
     pub follows : Leads (Follows s) n
 
-  -- a closed walk, or the state after, and that what was asked for is ranked
+  -- the state after, and that what was asked for is ranked
   pub record Ranks (s s' : List ℕ) (done : ℕ) (Goal : Type 0) : Type 0 where
     pub state : State s' done
     pub later : Later s s'
     pub goal : Goal
 
-  abbrev pub Gives : List ℕ → List ℕ → ℕ → Type 0 → Type 0
-  Gives s s' r Goal = ((r ≡ cycle_found) × ClosedWalk P table) ⊎ Ranks s s' r Goal
+  -- a closed walk, where there is no answer, or how many are ranked
+  abbrev pub Gives : List ℕ → List ℕ → Option ℕ → Type 0 → Type 0
+  Gives s s' r Goal = ((r ≡ None) × ClosedWalk P table) ⊎ ((done : ℕ) × (r ≡ Some done) × Ranks s s' done Goal)
 
 -- for whichever literals and counts: some are asked for, and the answer holds of all
 abbrev pub Tabling : List ℕ → List ℕ → List ℕ → ℕ → ℕ → Tables
@@ -89,11 +86,11 @@ VisitAsked w x table s done e = (l : List ℕ) × (n : ℕ) × (m : ℕ) × Asks
 abbrev pub WalkAsked : List ℕ → List ℕ → List ℕ → List ℕ → ℕ → ℕ → Type 0
 WalkAsked w x table s done i = (l : List ℕ) × (n : ℕ) × (m : ℕ) × AsksWalk (Tabling w l x n m) table s done i
 
-abbrev pub VisitGiven : List ℕ → List ℕ → List ℕ → List ℕ → List ℕ → ℕ → ℕ → ℕ → Type 0
+abbrev pub VisitGiven : List ℕ → List ℕ → List ℕ → List ℕ → List ℕ → ℕ → ℕ → Option ℕ → Type 0
 VisitGiven w x table s s' done e r =
     (l : List ℕ) (n m : ℕ) → AsksVisit (Tabling w l x n m) table s done e → Gives (Tabling w l x n m) table s s' r (2 ≤ get_or s' e 0)
 
-abbrev pub WalkGiven : List ℕ → List ℕ → List ℕ → List ℕ → List ℕ → ℕ → ℕ → ℕ → Type 0
+abbrev pub WalkGiven : List ℕ → List ℕ → List ℕ → List ℕ → List ℕ → ℕ → ℕ → Option ℕ → Type 0
 WalkGiven w x table s s' done i r =
     (l : List ℕ) (n m : ℕ) → AsksWalk (Tabling w l x n m) table s done i →
     Gives (Tabling w l x n m) table s s' r (Leads (Tabling w l x n m) table (λ u. 2 ≤ get_or s' u 0) i)
@@ -113,9 +110,10 @@ rank_in s e = get_or s e 0 - 2
 abbrev pub AllAsked : List ℕ → List ℕ → List ℕ → ℕ → Type 0
 AllAsked w x table m = (l : List ℕ) × (n : ℕ) × Starts (Tabling w l x n m) table
 
-abbrev pub Outcome : Tables → List ℕ → Bool → List ℕ → Type 0
-Outcome t table cyclic ranks =
-    ((cyclic ≡ true) × ClosedWalk (tabled t) table) ⊎ ((cyclic ≡ false) × Ranked (tabled t) table (rank_in ranks))
+-- a closed walk, where there are no ranks
+abbrev pub Outcome : Tables → List ℕ → Option (List ℕ) → Type 0
+Outcome t table None = ClosedWalk (tabled t) table
+Outcome t table (Some ranks) = Ranked (tabled t) table (rank_in ranks)
 
-abbrev pub AllGiven : List ℕ → List ℕ → List ℕ → ℕ → Bool → List ℕ → Type 0
-AllGiven w x table m cyclic ranks = (l : List ℕ) (n : ℕ) → Starts (Tabling w l x n m) table → Outcome (Tabling w l x n m) table cyclic ranks
+abbrev pub AllGiven : List ℕ → List ℕ → List ℕ → ℕ → Option (List ℕ) → Type 0
+AllGiven w x table m r = (l : List ℕ) (n : ℕ) → Starts (Tabling w l x n m) table → Outcome (Tabling w l x n m) table r

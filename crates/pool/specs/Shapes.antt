@@ -1,5 +1,6 @@
 -- The tests of a pool's shape as they stand in tables.
 -- Assumes nothing: these are definitions.
+use Rattle.std.specs.Prelude as std
 use Rattle.std.specs.Prelude.{ℕ, zero, suc, ◌<◌, min, ◌≡◌, Bool, true, not, ◌&&◌, List, [], ◌∷◌, ◌++◌, length, get_or, eqb, leb}
 use Rattle.std.proofs.Math.Option.{Option, none, some}
 use Rattle.frames.specs.Order.{node_limit}
@@ -10,10 +11,6 @@ use Rattle.kinds.specs.Kinds.{child_count}
 use Rattle.pool.specs.Pool.{times}
 use Rattle.pool.specs.Admission.{some_from}
 use Rattle.pool.specs.Tabled.{children_in}
-use Rattle.pool.specs.declared.shape.Rule.{Rule}
-use Rattle.pool.specs.declared.shape.Rule.TheVariants.{ChildCount, ChildEarlier, UsedOnce, ExpressionThere}
-use Rattle.pool.specs.declared.shape.Found.{Found}
-use Rattle.pool.specs.declared.shape.Found.TheVariants.{At, Nothing}
 
 abbrev pub wrong_in : List ℕ → ℕ → Bool
 wrong_in w i = not (eqb (count_in w i) (child_count (kind_in w i)))
@@ -35,16 +32,10 @@ lost_in w m i = eqb (kind_in w i) kind.exp && leb m (id_in w i)
 abbrev pub lost_root_in : List ℕ → ℕ → ℕ → Bool
 lost_root_in x n e = leb n (root_in x e)
 
-abbrev pub offends_in : Rule → List ℕ → List ℕ → ℕ → ℕ → Bool
-offends_in ChildCount w u m i = wrong_in w i
-offends_in ChildEarlier w u m i = late_in w i
-offends_in UsedOnce w u m i = twice_in u i
-offends_in ExpressionThere w u m i = lost_in w m i
-
--- WHAT Found SAYS
-abbrev pub found_at : Found → Option ℕ
-found_at (At n) = some n
-found_at Nothing = none
+-- the number that was found, where one was
+abbrev pub found_at : std.Option ℕ → Option ℕ
+found_at (std.Some n) = some n
+found_at std.None = none
 
 -- the children of the first n nodes, and the roots of the first m expressions
 unfoldable pub child_uses_in : List ℕ → ℕ → List ℕ

@@ -8,7 +8,6 @@ ghost use Rattle.pool.specs.Ranking.{AllAsked};
 ghost use Rattle.pool.specs.Cycles.{lead_in, reach, LeafAsked, LeafGiven, SpreadAsked, SpreadGiven, reached_in, BackAsked, BackGiven, CycleGiven};
 
 use crate::entries::{entry_at, entry_count};
-use crate::shape::Found;
 use crate::words::{child, id, root};
 use frames::count::{EXPRESSION_LIMIT, NODE_LIMIT};
 use frames::tables::{NODE_WORDS, count_at, kind_at};
@@ -19,22 +18,22 @@ const REACHED: u8 = 1;
 const FOLLOWED: u8 = 2;
 
 // The expression that a leaf leads to.
-pub fn lead(nodes: &[u64; NODE_WORDS], table: &[u8], i: usize) -> Found
+pub fn lead(nodes: &[u64; NODE_WORDS], table: &[u8], i: usize) -> Option<usize>
     requires { i < node_limit }
     ensures { found_at result ≡ lead_in nodes.now (entries_in table.now) i }
 {
     let kind = kind_at(nodes, i);
     if kind == Kind::EXP {
-        return Found::At(id(nodes, i));
+        return Some(id(nodes, i));
     }
     if kind == Kind::Q {
         let q = id(nodes, i);
         if entry_count(table) <= q {
-            return Found::Nothing;
+            return None;
         }
-        return Found::At(entry_at(table, q));
+        return Some(entry_at(table, q));
     }
-    Found::Nothing
+    None
 }
 
 fn mark(marks: &mut [u8; EXPRESSION_LIMIT], v: usize)
@@ -58,17 +57,11 @@ fn mark_leaf(
     requires { LeafAsked nodes.now (entries_in table.now) i }
     ensures { LeafGiven nodes.now (entries_in table.now) target i marks.old least marks.new result }
 {
-    let Found::At(v) = lead(nodes, table, i) else {
+    let Some(v) = lead(nodes, table, i) else {
         return least;
     };
     mark(marks, v);
-    if v != target {
-        return least;
-    }
-    if least <= i {
-        return least;
-    }
-    i
+    if v == target { least.min(i) } else { least }
 }
 
 // The leaves of a tree, from left to right.
@@ -99,16 +92,11 @@ fn mark_tree(
 }
 
 // The first expression that is reached and whose leaves are not marked yet.
-fn first_reached(marks: &[u8; EXPRESSION_LIMIT], m: usize) -> Found
+fn first_reached(marks: &[u8; EXPRESSION_LIMIT], m: usize) -> Option<usize>
     requires { m ≤ expression_limit }
     ensures { found_at result ≡ first (reached_in marks.now) m }
 {
-    for e in 0..m {
-        if marks[e] == REACHED {
-            return Found::At(e);
-        }
-    }
-    Found::Nothing
+    marks[..m].iter().position(|mark| *mark == REACHED)
 }
 
 // The least of `least` and the leaves that lead to an expression from those that it reaches, itself among them.
@@ -127,7 +115,7 @@ fn least_back(
     let mut found = least;
     marks[target] = REACHED;
     loop {
-        let Found::At(e) = first_reached(&marks, m) else {
+        let Some(e) = first_reached(&marks, m) else {
             return found;
         };
         marks[e] = FOLLOWED;
@@ -142,7 +130,7 @@ fn least_back(
     }
 }
 
-// `NODE_LIMIT` where there is no cycle.
+// `NODE_LIMIT`, with which the minimum begins, where there is no cycle.
 pub fn first_on_cycle(
     nodes: &[u64; NODE_WORDS],
     expressions: &[u64; EXPRESSION_LIMIT],

@@ -1,26 +1,24 @@
 // The number that a slice of frames, or a text of them, gets: 0 for a pool that is admitted, else its refusal's.
-ghost use Rattle.std.specs.Prelude.{◌≡◌};
-ghost use Rattle.meaning.specs.Refusals.{answer_no};
-ghost use Rattle.pool.specs.Admitting.{verdict_says};
-ghost use Rattle.pool.specs.Numbered.{Numbered, NumberedText};
+ghost use Rattle.pool.specs.Numbered.{Numbered, NumberedText, VerdictAsked, VerdictGiven};
 
-use crate::admit::{Verdict, admit};
-use frames::count::{EXPRESSION_LIMIT, NODE_LIMIT, REQUEST_LIMIT, Reading};
+use crate::admit::admit;
+use frames::count::{Counts, EXPRESSION_LIMIT, NODE_LIMIT, REQUEST_LIMIT};
 use frames::read::read;
 use frames::tables::NODE_WORDS;
 use frames::text::fill_text;
-use kinds::refusal::{CHILD_COUNT, CYCLE, FULL, MALFORMED, NONE, NOT_THERE};
+use kinds::refusal::{Refused, answer_number};
 
-fn verdict_number(verdict: Verdict) -> u8
-    ensures { result ≡ answer_no (verdict_says verdict) }
+// The ranks of the pool that was read, or the first refusal, while reading or after it.
+fn verdict_of(
+    counts: Result<Counts, Refused>,
+    nodes: &[u64; NODE_WORDS],
+    expressions: &[u64; EXPRESSION_LIMIT],
+) -> Result<[u64; EXPRESSION_LIMIT], Refused>
+    requires { VerdictAsked nodes.now expressions.now counts }
+    ensures { VerdictGiven nodes.now expressions.now counts result }
 {
-    match verdict {
-        Verdict::ChildCount(_) => CHILD_COUNT,
-        Verdict::NotThere(_) => NOT_THERE,
-        Verdict::LostRoot => NOT_THERE,
-        Verdict::Cycle(_) => CYCLE,
-        Verdict::Admitted => NONE,
-    }
+    let c = counts?;
+    admit(nodes, expressions, &[], c.nodes, c.expressions)
 }
 
 pub fn number_of(s: &[u8]) -> u8
@@ -30,21 +28,14 @@ pub fn number_of(s: &[u8]) -> u8
     let mut literals = [0u64; NODE_LIMIT];
     let mut expressions = [0u64; EXPRESSION_LIMIT];
     let mut requests = [0u64; REQUEST_LIMIT];
-    match read(
+    let counts = read(
         s,
         &mut nodes,
         &mut literals,
         &mut expressions,
         &mut requests,
-    ) {
-        Reading::Malformed(_) => MALFORMED,
-        Reading::Full(_) => FULL,
-        Reading::Read(c) => {
-            let admission = admit(&nodes, &expressions, &s[0..0], c.nodes, c.expressions);
-            let verdict = admission.verdict;
-            verdict_number(verdict)
-        }
-    }
+    );
+    answer_number(&verdict_of(counts, &nodes, &expressions))
 }
 
 // That of a text of lower-case hexadecimal, one frame a line.
@@ -55,19 +46,12 @@ pub fn number_of_text(text: &[u8]) -> u8
     let mut literals = [0u64; NODE_LIMIT];
     let mut expressions = [0u64; EXPRESSION_LIMIT];
     let mut requests = [0u64; REQUEST_LIMIT];
-    match fill_text(
+    let counts = fill_text(
         text,
         &mut nodes,
         &mut literals,
         &mut expressions,
         &mut requests,
-    ) {
-        Reading::Malformed(_) => MALFORMED,
-        Reading::Full(_) => FULL,
-        Reading::Read(c) => {
-            let admission = admit(&nodes, &expressions, &text[0..0], c.nodes, c.expressions);
-            let verdict = admission.verdict;
-            verdict_number(verdict)
-        }
-    }
+    );
+    answer_number(&verdict_of(counts, &nodes, &expressions))
 }

@@ -13,10 +13,8 @@ const REACHED: u64 = 1;
 
 const RANKED: u64 = 2;
 
-// More than any count of expressions.
-pub const CYCLE: usize = EXPRESSION_LIMIT + 1;
-
-// An expression: its leaves first, then its own rank, the number of those ranked before it.
+// An expression: its leaves first, then its own rank, the number of those ranked before it. How many are ranked then; None on a walk that
+// comes back to where it began.
 #[cycle(visit_walk)]
 fn visit(
     nodes: &[u64; NODE_WORDS],
@@ -25,24 +23,21 @@ fn visit(
     ranks: &mut [u64; EXPRESSION_LIMIT],
     done: usize,
     e: usize,
-) -> usize
+) -> Option<usize>
     requires { VisitAsked nodes.now expressions.now (entries_in table.now) ranks.old done e }
     ensures { VisitGiven nodes.now expressions.now (entries_in table.now) ranks.old ranks.new done e result }
 {
     let rank = ranks[e];
     if RANKED <= rank {
-        return done;
+        return Some(done);
     }
     if rank == REACHED {
-        return CYCLE;
+        return None;
     }
     ranks[e] = REACHED;
-    let before = walk(nodes, expressions, table, ranks, done, root(expressions, e));
-    if before == CYCLE {
-        return CYCLE;
-    }
+    let before = walk(nodes, expressions, table, ranks, done, root(expressions, e))?;
     ranks[e] = RANKED + before as u64;
-    before + 1
+    Some(before + 1)
 }
 
 // Every expression that the leaves of a tree lead to, from left to right.
@@ -54,7 +49,7 @@ fn walk(
     ranks: &mut [u64; EXPRESSION_LIMIT],
     done: usize,
     i: usize,
-) -> usize
+) -> Option<usize>
     requires { WalkAsked nodes.now expressions.now (entries_in table.now) ranks.old done i }
     ensures { WalkGiven nodes.now expressions.now (entries_in table.now) ranks.old ranks.new done i result }
 {
@@ -65,61 +60,39 @@ fn walk(
     if kind == Kind::Q {
         let q = id(nodes, i);
         if entry_count(table) <= q {
-            return done;
+            return Some(done);
         }
         return visit(nodes, expressions, table, ranks, done, entry_at(table, q));
     }
     let count = count_at(nodes, i);
     if count == 0 {
-        return done;
+        return Some(done);
     }
-    let first = walk(nodes, expressions, table, ranks, done, child(nodes, i, 0));
-    if first == CYCLE {
-        return CYCLE;
-    }
+    let first = walk(nodes, expressions, table, ranks, done, child(nodes, i, 0))?;
     if count == 1 {
-        return first;
+        return Some(first);
     }
-    let second = walk(nodes, expressions, table, ranks, first, child(nodes, i, 1));
-    if second == CYCLE {
-        return CYCLE;
-    }
+    let second = walk(nodes, expressions, table, ranks, first, child(nodes, i, 1))?;
     if count == 2 {
-        return second;
+        return Some(second);
     }
     walk(nodes, expressions, table, ranks, second, child(nodes, i, 2))
 }
 
-// The ranks of all expressions, with 2 added to each; or that they lead back to where they began, and then all 0.
-#[derive(Drop)]
-pub struct Ranking {
-    pub cyclic: bool,
-    pub ranks: [u64; EXPRESSION_LIMIT],
-}
-
-// Every expression, in order.
+// The ranks of all expressions, in order, with 2 added to each; None where some lead back to where they began.
 pub fn rank_all(
     nodes: &[u64; NODE_WORDS],
     expressions: &[u64; EXPRESSION_LIMIT],
     table: &[u8],
     m: usize,
-) -> Ranking
+) -> Option<[u64; EXPRESSION_LIMIT]>
     requires { AllAsked nodes.now expressions.now (entries_in table.now) m }
-    ensures { AllGiven nodes.now expressions.now (entries_in table.now) m result.cyclic result.ranks }
+    ensures { AllGiven nodes.now expressions.now (entries_in table.now) m result }
 {
     let mut ranks = [0u64; EXPRESSION_LIMIT];
     let mut done: usize = 0;
     for e in 0..m {
-        done = visit(nodes, expressions, table, &mut ranks, done, e);
-        if done == CYCLE {
-            return Ranking {
-                cyclic: true,
-                ranks: [0u64; EXPRESSION_LIMIT],
-            };
-        }
+        done = visit(nodes, expressions, table, &mut ranks, done, e)?;
     }
-    Ranking {
-        cyclic: false,
-        ranks: ranks,
-    }
+    Some(ranks)
 }

@@ -12,14 +12,9 @@ use frames::tables::{NODE_WORDS, count_at};
 fn tally(uses: &mut [u8; NODE_LIMIT], k: usize)
     ensures { Tallies uses.old uses.new (k ∷ []) }
 {
-    if NODE_LIMIT <= k {
-        return;
+    if k < NODE_LIMIT && uses[k] < 2 {
+        uses[k] += 1;
     }
-    let times = uses[k];
-    if 2 <= times {
-        return;
-    }
-    uses[k] = times + 1;
 }
 
 fn tally_children(nodes: &[u64; NODE_WORDS], uses: &mut [u8; NODE_LIMIT], i: usize)

@@ -1,7 +1,7 @@
 -- The frames of nodes and of expressions, one after the other. Over plain lists and numbers.
 -- Assumes nothing.
 use Prim.Native.Nat.{ℕ, zero, suc, ◌+◌, ◌*◌, ◌≤◌, ◌<◌}
-use mathlib.Core.Path.{◌≡◌, refl, ◌∙◌, ap, subst}
+use mathlib.Core.Path.{◌≡◌, refl, ◌∙◌, ap}
 use mathlib.Core.List.{List, [], ◌∷◌, ◌++◌, map, map-append, append-nil, append_assoc}
 use native.Mathlib.Omega.{arith}
 use native.Mathlib.Numerals.{add-one}
@@ -16,7 +16,7 @@ use Rattle.frames.specs.declared.node.Node.{Node}
 use Rattle.frames.specs.declared.rest.Expression.{Expression}
 use Rattle.pool_frames.specs.Frames.{framed, Puts}
 use Rattle.pool_frames.specs.Pools.{pool_in, nodes_bytes, expressions_bytes, NodesAsk, Writes}
-use Rattle.pool_frames.specs.declared.pool.Written.TheVariants.{Full, Done}
+use Rattle.std.specs.Prelude.{Some, None}
 use Rattle.pool_frames.proofs.Parts.{puts_none, puts-next, framed-length, node-small}
 
 -- ---- any frames
@@ -104,11 +104,6 @@ module _ (nodes literals : List ℕ) where
     bytes-more x r j q =
         rw (nodes-more k) (rw (← r) (puts-next l 0 (nodes_bytes nodes literals k) (framed (node_bytes x)) at j p q))
 
-  pub bytes-all : {l' : List ℕ} (l : List ℕ) (k n at : ℕ) → Puts l 0 (nodes_bytes nodes literals k) l' at → k ≤ n → n ≤ k → Puts l 0 (nodes_bytes nodes literals n) l' at
-  bytes-all {l'} l k n at p g h =
-      let q : k ≡ n = omega arith in
-      subst (λ m. Puts l 0 (nodes_bytes nodes literals m) l' at) q p
-
 -- ---- expressions
 
 module _ (expressions : List ℕ) where
@@ -147,13 +142,6 @@ module _ (expressions : List ℕ) where
     written-more x r j q =
         rw (expressions-more k) (rw (← r) (puts-next l from (expressions_bytes expressions k) (framed (expression_bytes x)) at j p q))
 
-  pub written_all :
-      {l' : List ℕ} (l : List ℕ) (from k m at : ℕ) → Puts l from (expressions_bytes expressions k) l' at → k ≤ m → m ≤ k
-      → Puts l from (expressions_bytes expressions m) l' at
-  written_all {l'} l from k m at p g h =
-      let q : k ≡ m = omega arith in
-      subst (λ i. Puts l from (expressions_bytes expressions i) l' at) q p
-
 -- ---- a pool
 
 module _ (nodes literals expressions : List ℕ) (n m : ℕ) where
@@ -169,16 +157,16 @@ module _ (nodes literals expressions : List ℕ) (n m : ℕ) where
       ap length pool-bytes ∙ length-append (nodes_bytes nodes literals n) (expressions_bytes expressions m) ∙ rw (expressions-length expressions m)
 
   module _ (out : List ℕ) (s : ℕ) (e : s ≡ length (nodes_bytes nodes literals n)) where
-    pub pool-full : length out < s + 6 * m → Writes (frames_of (pool_in nodes literals expressions n m)) out Full out
+    pub pool-full : length out < s + 6 * m → Writes (frames_of (pool_in nodes literals expressions n m)) out None out
     pool-full h =
         let f : length out < length (frames_of (pool_in nodes literals expressions n m)) = omega (arith, pool-length) in
         record { answer = rw (lt-leb _ _ f); after = rw (lt-leb _ _ f) }
 
     pub pool-written :
         {out₁ out₂ : List ℕ} (i j : ℕ) → s + 6 * m ≤ length out → Puts out 0 (nodes_bytes nodes literals n) out₁ i → Puts out₁ i (expressions_bytes expressions m) out₂ j
-        → Writes (frames_of (pool_in nodes literals expressions n m)) out (Done j) out₂
+        → Writes (frames_of (pool_in nodes literals expressions n m)) out (Some j) out₂
     pool-written i j h p q =
         let f : length (frames_of (pool_in nodes literals expressions n m)) ≤ length out = omega (arith, pool-length) in
         let r = puts-next out 0 (nodes_bytes nodes literals n) (expressions_bytes expressions m) i j p q in
         let e : j ≡ length (nodes_bytes nodes literals n ++ expressions_bytes expressions m) = omega (arith, r.next) in
-        record { answer = rw (le-leb _ _ f, pool-bytes) (ap Done e); after = rw (le-leb _ _ f, pool-bytes) r.list }
+        record { answer = rw (le-leb _ _ f, pool-bytes) (ap Some e); after = rw (le-leb _ _ f, pool-bytes) r.list }

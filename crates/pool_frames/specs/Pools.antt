@@ -1,12 +1,10 @@
 -- The bytes of the nodes and of the expressions that stand in tables, and what writing them gives.
 -- Assumes nothing: these are definitions.
-use Rattle.std.specs.Prelude.{ℕ, ◌+◌, ◌*◌, ◌≤◌, ◌≡◌, cond, List, [], map, length, leb}
+use Rattle.std.specs.Prelude.{Option, Some, None, ℕ, ◌+◌, ◌*◌, ◌≤◌, ◌≡◌, cond, List, [], map, length, leb}
 use Rattle.kinds.specs.Write.{write}
 use Rattle.frames.specs.Order.{node_limit, expression_limit, Input}
 use Rattle.frames.specs.Tables.{node_in, expression_in, first}
 use Rattle.frames.specs.Written.{node_bytes, expression_bytes, behind_lengths}
-use Rattle.pool_frames.specs.declared.pool.Written.{Written}
-use Rattle.pool_frames.specs.declared.pool.Written.TheVariants.{Full, Done}
 
 -- the first n nodes and the first m expressions of tables, with no request
 abbrev pub pool_in : List ℕ → List ℕ → List ℕ → ℕ → ℕ → Input
@@ -30,7 +28,7 @@ pub record PoolAsks (n m : ℕ) : Type 0 where
   pub nodes : n ≤ node_limit
   pub expressions : m ≤ expression_limit
 
--- bytes at the front of out where they fit, and how many; else it is full, and as it was
-pub record Writes (bytes out : List ℕ) (w : Written) (out' : List ℕ) : Type 0 where
-  pub answer : w ≡ cond (leb (length bytes) (length out)) (Done (length bytes)) Full
+-- bytes at the front of out where they fit, and how many; else there is none, and it is as it was
+pub record Writes (bytes out : List ℕ) (w : Option ℕ) (out' : List ℕ) : Type 0 where
+  pub answer : w ≡ cond (leb (length bytes) (length out)) (Some (length bytes)) None
   pub after : out' ≡ cond (leb (length bytes) (length out)) (write out 0 bytes) out

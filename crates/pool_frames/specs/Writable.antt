@@ -1,6 +1,6 @@
 -- READING WHAT WAS WRITTEN GIVES THE POOL: for a pool that is well formed, and whatever was read is, but for child counts that admission refuses.
 -- Assumes nothing.
-use Rattle.std.specs.Prelude.{ℕ, ◌≤◌, ◌≡◌, refl, Bool, true, false, List, [], ◌∷◌, ◌++◌, length, take, drop, leb, eqb}
+use Rattle.std.specs.Prelude.{Option, Some, None, ℕ, ◌≤◌, ◌≡◌, refl, Bool, true, false, List, [], ◌∷◌, ◌++◌, length, take, drop, leb, eqb}
 use Rattle.std.proofs.Common.{arith, zero-add, le-ltb, leb-true}
 use Rattle.std.proofs.Math.Seq.{take-append_seam}
 use Rattle.kinds.specs.Kinds.{carries_literal}
@@ -22,35 +22,33 @@ use Rattle.frames.specs.declared.node.Node.{Node}
 use Rattle.frames.specs.declared.rest.Expression.{Expression}
 use Rattle.frames.specs.declared.count.Counts.{Counts}
 use Rattle.pool_frames.specs.Pools.{Writes}
-use Rattle.pool_frames.specs.declared.pool.Written.{Written}
-use Rattle.pool_frames.specs.declared.pool.Written.TheVariants.{Full, Done}
 
 -- ---- what is written
 
 front : (out bytes : List ℕ) → length bytes ≤ length out → write out 0 bytes ≡ bytes ++ drop (length bytes) out
 front out bytes h = simp zero-add at (write-is out 0 bytes (simp zero-add h))
 
-module _ (bytes out out' : List ℕ) (w : Written) (h : Writes bytes out w out') where
+module _ (bytes out out' : List ℕ) (w : Option ℕ) (h : Writes bytes out w out') where
   -- where it fits, its bytes stand at the front
-  pub written-front : (k : ℕ) → w ≡ Done k → take k out' ≡ bytes
+  pub written-front : (k : ℕ) → w ≡ Some k → take k out' ≡ bytes
   written-front k e = by (leb (length bytes) (length out)) refl
     where
       by : (b : Bool) → leb (length bytes) (length out) ≡ b → take k out' ≡ bytes
       by true q =
-          let a : w ≡ Done (length bytes) = rw q at h.answer in
+          let a : w ≡ Some (length bytes) = rw q at h.answer in
           let n : k ≡ length bytes = cc in
           let z : length bytes ≤ length out = leb-true _ _ q in
           let r : out' ≡ write out 0 bytes = rw q at h.after in
           let f : write out 0 bytes ≡ bytes ++ drop (length bytes) out = front out bytes z in
           rw (n, r, f) (take-append_seam bytes (drop (length bytes) out))
       by false q =
-          let a : w ≡ Full = rw q at h.answer in
+          let a : w ≡ None = rw q at h.answer in
           let z : ◌≡◌ {A = ℕ} 0 1 = cc in
           absurd (omega arith)
 
 -- THERE AND BACK
 pub written_read :
-    (i : Input) → WellFormed i → (out out' : List ℕ) (w : Written) → Writes (frames_of i) out w out' → (k : ℕ) → w ≡ Done k → reading (take k out') ≡ done i
+    (i : Input) → WellFormed i → (out out' : List ℕ) (w : Option ℕ) → Writes (frames_of i) out w out' → (k : ℕ) → w ≡ Some k → reading (take k out') ≡ done i
 written_read i f out out' w h k e = rw (written-front (frames_of i) out out' w h k e) (read_back i f)
 
 -- ---- what was read is well formed

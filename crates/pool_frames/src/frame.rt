@@ -27,10 +27,7 @@ const EXPRESSION_SIZE: u16 = 4;
 fn children_size(count: u8) -> usize
     ensures { result ≡ children_size count }
 {
-    if 3 < count {
-        return 3 * CHILD_SIZE;
-    }
-    CHILD_SIZE * (count as usize)
+    CHILD_SIZE * (count as usize).min(3)
 }
 
 // The length of a node's frame.

@@ -15,13 +15,6 @@ const LENGTH_SIZE: usize = 2;
 // An expression's frame and its length.
 const EXPRESSION_SIZE: usize = 6;
 
-// How many bytes stand at the front of the lent slice, or that it has no room for them.
-#[derive(Drop)]
-pub enum Written {
-    Full,
-    Done(usize),
-}
-
 fn nodes_size(nodes: &[u64; NODE_WORDS], literals: &[u64; NODE_LIMIT], n: usize) -> usize
     requires { n ≤ node_limit }
     ensures { result ≡ length (nodes_bytes nodes.now literals.now n) }
@@ -65,8 +58,8 @@ fn put_expressions(
     at
 }
 
-// The frames of the first `n` nodes and the first `m` expressions of the tables, at the front of `out`, all or nothing: where they do not fit, `out` has
-// not changed.
+// The frames of the first `n` nodes and the first `m` expressions of the tables, at the front of `out`, and how many bytes they are. All or nothing: None
+// where they do not fit, and `out` has not changed.
 pub fn write_pool(
     nodes: &[u64; NODE_WORDS],
     literals: &[u64; NODE_LIMIT],
@@ -74,14 +67,14 @@ pub fn write_pool(
     n: usize,
     m: usize,
     out: &mut [u8],
-) -> Written
+) -> Option<usize>
     requires { PoolAsks n m }
     ensures { Writes (frames_of (pool_in nodes.now literals.now expressions.now n m)) out.old result out.new }
 {
     let size = nodes_size(nodes, literals, n) + EXPRESSION_SIZE * m;
     if out.len() < size {
-        return Written::Full;
+        return None;
     }
     let end = put_nodes(nodes, literals, n, out);
-    Written::Done(put_expressions(expressions, m, out, end))
+    Some(put_expressions(expressions, m, out, end))
 }

@@ -2,7 +2,7 @@
 -- the integers and modulo every number from 2 up. `Computes` (meaning/specs/Demand3.antt) says: the list runs to its end, reads nothing early, and leaves in each requested cell
 -- its expression's value; `PlanComputes` (plan_demand3) says so of the list after fixing, in the cell that fixing gave each request.
 -- Assumes nothing.
-use Rattle.std.specs.Prelude.{ℕ, ◌<◌, ◌≤◌, ◌≡◌, refl, Bool, true, false, cond, List, [], ◌++◌, length, get_or, set, eqb}
+use Rattle.std.specs.Prelude.{ℕ, ◌<◌, ◌≤◌, ◌≡◌, refl, Bool, true, false, cond, List, [], ◌++◌, length, get_or, set, eqb, Ok}
 use Rattle.std.proofs.Common.{sym, ◌∙◌, ap, subst, arith, get_or-set_same, get_or-set_other}
 use Rattle.std.proofs.Math.Option.{none}
 use Rattle.kinds.specs.Write.{write}
@@ -37,7 +37,6 @@ use Rattle.codegen.specs.Building.{Lists, fits_all, AnsweredBuild, StandsBuilt, 
 use Rattle.codegen.specs.Sessions.{Session, demand3-session}
 use Rattle.plan_walks.specs.Walks.{Walked}
 use Rattle.plan_walks.specs.Fix.{is_n, FixIs}
-use Rattle.plan_walks.specs.declared.walk.Walk.TheVariants as walk
 use Rattle.plan_demand3.specs.Conditions.{IntermediatesDiffer, NoLeafReadsIntermediate, plan_for}
 use Rattle.plan_demand3.specs.Demand3Plan.{PlanComputes}
 use Rattle.plan_demand3.proofs.Demand3Plan.{demand3-plan}
@@ -183,18 +182,18 @@ demand3-build 𝓐 E qs x l calls s i r same x' o o' z z' h G leaves given =
 -- a call of enonkasse_fix that is answered with 0 is one of `fix` that is done, with the counter that it tells
 pub fix_call :
     (s b : List ℕ) (domain : ℕ) (z z' first i last first' i' last' : List ℕ) (counter : ℕ) → get_or z 0 0 ≡ counter → WalkCounted s b domain z z' first i last first' i' last' 0 →
-    (n : ℕ) × FixIs s b domain counter first i last first' i' last' (walk.Done n) × (z' ≡ set z 0 n)
+    (n : ℕ) × FixIs s b domain counter first i last first' i' last' (Ok n) × (z' ≡ set z 0 n)
 fix_call s b domain z z' first i last first' i' last' counter counted h =
     let d = is-done h.0 h.2 in
     let n : ℕ = d.0.counter in
-    let is : FixIs s b domain (get_or z 0 0) first i last first' i' last' (walk.Done n)
+    let is : FixIs s b domain (get_or z 0 0) first i last first' i' last' (Ok n)
     = record { answer = h.0; goes = h.1; does = record { says = sym (ap (λ (a : Answer Walked). a then λ u. done u.counter) d.1); lists = h.3 } } in
-    (n, subst (λ c. FixIs s b domain c first i last first' i' last' (walk.Done n)) counted is, h.4 ∙ ap (λ (a : Answer Walked). cells_told (a then λ u. done u.counter) z) d.1)
+    (n, subst (λ c. FixIs s b domain c first i last first' i' last' (Ok n)) counted is, h.4 ∙ ap (λ (a : Answer Walked). cells_told (a then λ u. done u.counter) z) d.1)
 
 pub demand3-fix : (𝓐 : Algebra) → Demand3Fix 𝓐
 demand3-fix 𝓐 s room g run i r b bytes differ alone domain z z' first' i' last' counted h G fed =
     let c = fix_call s b domain z z' (encoded g.first) (encoded g.i) (encoded g.last) first' i' last' g.counter counted h in
-    (c.0, c.2, demand3-plan 𝓐 s room g run i r b bytes differ alone domain first' i' last' (walk.Done c.0) c.1 c.0 refl G fed)
+    (c.0, c.2, demand3-plan 𝓐 s room g run i r b bytes differ alone domain first' i' last' (Ok c.0) c.1 c.0 refl G fed)
 
 -- ── over the integers, and modulo every number from 2 up ─────────────────────
 pub demand3-run-integers : Demand3Run integers

@@ -1,7 +1,7 @@
 -- WHAT THE EXPORTED EVALUATOR ANSWERS OF A GENERATED LIST: the number is 0, and for each request its expression's value modulo m stands in its cell; so also of the first list after
 -- fixing by a plan, in the cell that fixing gave the request.
 -- Assumes nothing.
-use Rattle.std.specs.Prelude.{ℕ, ◌*◌, ◌≤◌, ◌≡◌, refl, Bool, true, false, cond, ◌&&◌, List, length, get_or, leb}
+use Rattle.std.specs.Prelude.{ℕ, ◌*◌, ◌≤◌, ◌≡◌, refl, Bool, true, false, cond, ◌&&◌, List, length, get_or, leb, Ok}
 use Rattle.std.proofs.Common.{sym, ◌∙◌, ap, subst, le-leb}
 use Rattle.std.proofs.Math.Option.{Option, none, some}
 use Rattle.kinds.specs.Write.{write}
@@ -29,11 +29,11 @@ use Rattle.evaluator_cells.specs.Keyed.{valued_size}
 use Rattle.evaluator_cells.specs.Given.{lent, given, good_values}
 use Rattle.evaluator_cells.specs.Literals.{brought_at}
 use Rattle.evaluator_run.specs.Evaluation.{Valued, values_bytes, computed, ruled, well_formed, ruling, out_after}
-use Rattle.evaluator.specs.Answer.{Evaluates, answer_says, EvaluationIs}
+use Rattle.evaluator.specs.Answer.{Evaluates, Evaluation, answer_says, EvaluationIs}
 use Rattle.evaluator.specs.Exactly.{number_is}
 use Rattle.evaluator.specs.Computed.{AnsweredFor, few-nodes, rows_few, well_formed_lem, first_evaluates}
-use Rattle.evaluator.specs.declared.evaluate.Evaluation.{Evaluation}
-use Rattle.evaluator.specs.declared.evaluate.Evaluation.TheVariants as answer
+use Rattle.kinds.specs.Answers.{refusing}
+use Rattle.kinds.specs.declared.refusal.Refusal.TheVariants as code
 use Rattle.evaluator.specs.ComputedFixed.{FixedFor, fixed_evaluates}
 use Rattle.fixed_meaning.specs.Fixing.{Plan}
 use Rattle.fixing.specs.Kept.{fixed-good}
@@ -41,7 +41,6 @@ use Rattle.map_records.specs.Mapping.{mapped}
 use Rattle.planning.specs.Planning.{planned}
 use Rattle.plan_walks.specs.Cms.{cms_of}
 use Rattle.plan_walks.specs.Fix.{is_n, rules_in}
-use Rattle.plan_walks.specs.declared.walk.Walk.TheVariants as walk
 use Rattle.plan_demand3.specs.Conditions.{IntermediatesDiffer, NoLeafReadsIntermediate, plan_for, columns_differ, alone_throughout}
 use Rattle.plan_demand3.specs.Done.{call_done}
 use Rattle.host.specs.Numbered.{EvaluateNumbered}
@@ -87,12 +86,12 @@ EvaluatesFixed =
 -- ── the proof ────────────────────────────────────────────────────────────────
 -- an answer that the code has
 told-by : (x : Option (List Valued)) (room : ℕ) → (r : Evaluation) × (answer_says r ≡ (ruled room x then λ vs. done (length vs)))
-told-by none room = (answer.NoRule, refl)
+told-by none room = (refusing code.NoRule, refl)
 told-by (some vs) room = by (leb (length vs) cell_limit && leb (valued_size * length vs) room)
   where
     by : (b : Bool) → (r : Evaluation) × (answer_says r ≡ (cond b (done vs) (refused Refusal.full none) then λ us. done (length us)))
-    by true = (answer.Cells (length vs), refl)
-    by false = (answer.Full, refl)
+    by true = (Ok (length vs), refl)
+    by false = (refusing code.Full, refl)
 
 -- of an admitted pool, and a list and values that are well formed
 as_evaluation :
@@ -140,7 +139,7 @@ evaluates_fixed s room g run i read b bytes differ alone domain c c' first' i' l
     let cms : List ℕ = cms_of in_n (mapped b p).sections in
     let first : List ℕ = encoded g.first in
     let fixed = fix_call s b domain c c' first (encoded g.i) (encoded g.last) first' i' last' g.counter counted call in
-    let d = call_done s b domain g.counter first (encoded g.i) (encoded g.last) first' i' last' (walk.Done fixed.0) fixed.0 i read fixed.1 refl in
+    let d = call_done s b domain g.counter first (encoded g.i) (encoded g.last) first' i' last' (Ok fixed.0) fixed.0 i read fixed.1 refl in
     let a = accepted p (requests_of i) room g (run.judged i read) in
     let w = well_formed_lem p a.shaped (few-nodes s room g run i read) a.acyclic (requests_of i) g (plain-requests i.requests) (rows_few s room g run i read) a.run in
     let k : good_list first' ≡ true

@@ -1,14 +1,15 @@
 // `map_section` over polynomial records that are lent as a list of structs: their columns are copied out, mapped as plain numbers, and the positions
-// written back. What is refused is decided by functions on numbers, before anything is written.
+// written back. What is refused is decided before anything is written.
 #![tactic(auto)]
 
-ghost use Rattle.std.specs.Prelude.{◌≡◌};
+ghost use Rattle.std.specs.Prelude.{◌≡◌, length};
+ghost use Rattle.sections.specs.Sections.{known};
 ghost use Rattle.sections.specs.Answer.{mapped_no};
-ghost use Rattle.records.specs.Columns.{bad_after, refusal_no, accepted_count, ColumnsMapped};
-ghost use Rattle.records.specs.Records.{RecordsMapped};
+ghost use Rattle.records.specs.Columns.{AdmittedIs};
+ghost use Rattle.records.specs.Records.{sections_of, dims_of, positions_of, written, RecordsMapped};
 
-use kinds::refusal;
-use sections::map_section::{Mapped, RECORD_LIMIT, WIDTHS, map_section, read_count};
+use kinds::refusal::{NONE, Refusal};
+use sections::map_section::{RECORD_LIMIT, WIDTHS, map_section, read_count};
 use sections::section::Section;
 
 #[repr(C)]
@@ -19,104 +20,82 @@ pub struct PolType {
     pub section_pos: u16,
 }
 
-const KNOWN: u8 = 0;
-
-const UNKNOWN: u8 = 1;
-
-// Whether a section so far is unknown.
-fn unknown_after(bad: u8, section: u16) -> u8
-    ensures { result ≡ bad_after bad section }
+fn known_sections(records: &[PolType]) -> bool
+    ensures { result ≡ known (sections_of records.now) }
 {
-    if (section as usize) < Section::COUNT {
-        return bad;
-    }
-    UNKNOWN
+    records
+        .iter()
+        .all(|record| (record.section as usize) < Section::COUNT)
 }
 
-// What the lengths and the sections refuse.
-fn refused(
-    bad: u8,
-    count: usize,
+// Whether records are mapped, with lists of these lengths lent beside them.
+fn admitted(
+    records: &[PolType],
     sections: usize,
     dims: usize,
     positions: usize,
     widths: usize,
-) -> u8
-    ensures { result ≡ refusal_no bad count sections dims positions widths }
+) -> Result<(), Refusal>
+    ensures { AdmittedIs records.now sections dims positions widths result }
 {
-    if bad != KNOWN {
-        return refusal::MALFORMED;
+    let count = records.len();
+    if !known_sections(&records[..read_count(count)]) {
+        return Err(Refusal::Malformed);
     }
-    if sections != count {
-        return refusal::MALFORMED;
-    }
-    if dims != count {
-        return refusal::MALFORMED;
-    }
-    if positions != count {
-        return refusal::MALFORMED;
-    }
-    if widths != WIDTHS {
-        return refusal::MALFORMED;
+    if sections != count || dims != count || positions != count || widths != WIDTHS {
+        return Err(Refusal::Malformed);
     }
     if RECORD_LIMIT < count {
-        return refusal::FULL;
+        return Err(Refusal::Full);
     }
-    refusal::NONE
+    Ok(())
 }
 
-// How many records are mapped: all of them, or none where something is refused.
-fn accepted(
-    bad: u8,
-    count: usize,
-    sections: usize,
-    dims: usize,
-    positions: usize,
-    widths: usize,
-) -> usize
-    ensures { result ≡ accepted_count bad count sections dims positions widths }
+fn copy_columns(records: &[PolType], sections: &mut [u16], dims: &mut [u16], positions: &mut [u16])
+    requires { (length sections.old ≡ length records.now) × (length dims.old ≡ length records.now) × (length positions.old ≡ length records.now) }
+    ensures sections { sections.new ≡ sections_of records.now }
+    ensures dims { dims.new ≡ dims_of records.now }
+    ensures positions { positions.new ≡ positions_of records.now }
 {
-    if refused(bad, count, sections, dims, positions, widths) == refusal::NONE {
-        return count;
+    for i in 0..records.len() {
+        sections[i] = records[i].section;
+        dims[i] = records[i].dim;
+        positions[i] = records[i].section_pos;
     }
-    0
 }
 
-fn number_of(m: Mapped) -> u8
-    ensures { result ≡ mapped_no m }
+fn write_positions(records: &mut [PolType], positions: &[u16])
+    requires { length positions.now ≡ length records.old }
+    ensures { records.new ≡ written positions.now records.old }
 {
-    match m {
-        Mapped::Malformed => refusal::MALFORMED,
-        Mapped::Full => refusal::FULL,
-        Mapped::Done => refusal::NONE,
+    for i in 0..records.len() {
+        records[i].section_pos = positions[i];
     }
 }
 
-// The answer's number; the columns are mapped where nothing is refused, and else left alone.
-fn map_columns(
-    bad: u8,
-    count: usize,
-    sections: &[u16],
-    dims: &[u16],
+fn map_records(
+    records: &mut [PolType],
+    sections: &mut [u16],
+    dims: &mut [u16],
     positions: &mut [u16],
     widths: &mut [u16],
-) -> u8
-    ensures { ColumnsMapped bad count sections.now dims.now positions.old positions.new widths.old widths.new result }
+) -> Result<(), Refusal>
+    ensures { RecordsMapped records.old records.new sections.old sections.new dims.old dims.new positions.old positions.new widths.old widths.new (mapped_no result) }
 {
-    let no = refused(
-        bad,
-        count,
+    admitted(
+        records,
         sections.len(),
         dims.len(),
         positions.len(),
         widths.len(),
-    );
-    if no != refusal::NONE {
-        return no;
-    }
-    number_of(map_section(sections, dims, positions, widths))
+    )?;
+    copy_columns(records, sections, dims, positions);
+    map_section(sections, dims, positions, widths)?;
+    write_positions(records, positions);
+    Ok(())
 }
 
+// The answer's number: a program in another language calls this.
 pub fn enonkasse_map_section(
     rs: &mut [PolType],
     sections: &mut [u16],
@@ -126,28 +105,8 @@ pub fn enonkasse_map_section(
 ) -> u8
     ensures { RecordsMapped rs.old rs.new sections.old sections.new dims.old dims.new positions.old positions.new widths.old widths.new result }
 {
-    let upto = read_count(rs.len());
-    let mut bad = 0u8;
-    for k in 0..upto {
-        bad = unknown_after(bad, rs[k].section);
+    match map_records(rs, sections, dims, positions, widths) {
+        Ok(()) => NONE,
+        Err(refusal) => u8::from(refusal),
     }
-    let n = accepted(
-        bad,
-        rs.len(),
-        sections.len(),
-        dims.len(),
-        positions.len(),
-        widths.len(),
-    );
-    for i in 0..n {
-        let r = rs[i];
-        sections[i] = r.section;
-        dims[i] = r.dim;
-        positions[i] = r.section_pos;
-    }
-    let no = map_columns(bad, rs.len(), sections, dims, positions, widths);
-    for j in 0..n {
-        rs[j].section_pos = positions[j];
-    }
-    no
 }

@@ -3,19 +3,23 @@
 use Prim.Native.Nat.{ℕ, ◌+◌, ◌*◌, ◌-◌, ◌<◌, ◌≤◌}
 use mathlib.Core.Path.{◌≡◌, refl, sym, subst}
 use mathlib.Core.Bool.{true, false}
-use mathlib.Core.Option.{none, some}
 use mathlib.Core.List.{List}
 use native.Mathlib.Omega.{arith}
 use lib.ListN.{length}
 use lib.Dec.{leb, ltb}
 use borrow.Author.Tests.{leb-true, ltb-true, lt-ltb, le-leb, lt-leb}
-use Rattle.meaning.specs.Refusals.{Refusal, Answer, refused}
+use Rattle.std.specs.Prelude.{Result, Ok, Err, Option}
+use Rattle.meaning.specs.Refusals.{Answer, refused}
 use Rattle.meaning.specs.Trees.{Forest, Acyclic}
 use Rattle.meaning.specs.Order.{Job, Asked}
 use Rattle.meaning.specs.Generation.{make}
 use Rattle.meaning.specs.Asking.{ask_all}
 use Rattle.meaning.proofs.Laws.Tests.{true-false, and_left, and_right}
 use Rattle.kinds.specs.Write.{write}
+use Rattle.kinds.specs.Answers.{refusal_of, blame_of}
+use Rattle.kinds.specs.declared.refusal.Refusal.{Refusal}
+use Rattle.kinds.specs.declared.refusal.Refusal.TheVariants as refusal
+use Rattle.kinds.specs.declared.refusal.Refused.{Refused}
 use Rattle.kinds.specs.Steps.{step_size}
 use Rattle.frames.specs.Order.{node_limit}
 use Rattle.pool.specs.Trees.{forest}
@@ -24,24 +28,25 @@ use Rattle.starkinfo_codegen.specs.Encoding.{encoded}
 use Rattle.starkinfo_codegen.specs.Emitting.{Rest, tables_of, pool_of}
 use Rattle.starkinfo_codegen.specs.Ordering.{marks_of}
 use Rattle.starkinfo_codegen.specs.Totals.{counter_is, room-suffices}
-use Rattle.requests.specs.Planning.{request_at, requests_in, Adds, Says}
+use Rattle.requests.specs.Planning.{request_at, requests_in, Adds, OfRequest, Says}
 use Rattle.requests.specs.Making.{steps_from, all_steps, JobsAsk, SizeIs, Room}
-use Rattle.requests.specs.Generating.{number_limit, has_room, FitAsks, Fits, Makes, Overflows, GenerateAsks}
+use Rattle.requests.specs.Generating.{number_limit, has_room, FitAsks, Fits, Makes, Overflows, Stops, Serves, GenerateAsks}
 use Rattle.requests.specs.Jobs.{steps-count, enough-steps}
 use Rattle.requests.specs.Jobs as jobs
-use Rattle.requests.specs.declared.plan.Plan.{Plan}
-use Rattle.requests.specs.declared.plan.Plan.TheVariants as plan
 
 -- ── what a plan says ─────────────────────────────────────────────────────────
-module _ (y : Answer Asked) (s' j j' : List ℕ) (p : Plan) (g : Says y s' j j' 0 p) where
-  pub planned : {n : ℕ} → p ≡ plan.Jobs n → Adds y s' j j' 0 n
+module _ (y : Answer Asked) (s' j j' : List ℕ) (p : Result ℕ Refused) (g : Says y s' j j' 0 p) where
+  pub planned : {n : ℕ} → p ≡ Ok n → Adds y s' j j' 0 n
   planned e = subst (Says y s' j j' 0) e g
 
-  pub lost : p ≡ plan.NotThere → y ≡ refused Refusal.not_there none
-  lost e = subst (Says y s' j j' 0) e g
-
-  pub double : {i : ℕ} → p ≡ plan.DoublePrime i → y ≡ refused Refusal.double_prime (some i)
-  double e = subst (Says y s' j j' 0) e g
+  -- no request is refused for want of room
+  pub stopped : {f : Refused} → p ≡ Err f → (E : Forest) (l : List ℕ) (at t : ℕ) → Serves E y s' j j' l l at t (Err f)
+  stopped {f} e E l at t = go f.refusal f.node (subst (Says y s' j j' 0) e g)
+    where
+      go : (r : Refusal) (i : Option ℕ) → (y ≡ refused (refusal_of r) (blame_of i)) × OfRequest r → Stops E y s' j j' l l at t r i
+      go refusal.NotThere i h = (h.0, refl)
+      go refusal.DoublePrime i h = (h.0, refl)
+      go r i h = absurd h.1
 
 -- ── room ─────────────────────────────────────────────────────────────────────
 module _ (room at t jobs steps : ℕ) where

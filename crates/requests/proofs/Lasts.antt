@@ -9,11 +9,13 @@ use native.Mathlib.Omega.{arith}
 use lib.ListN.{get_or}
 use lib.Dec.{ltb}
 use borrow.Author.Tests.{lt-ltb}
+use Rattle.std.specs.Prelude.{Result, Ok, Err}
 use Rattle.meaning.specs.Refusals.{Refusal, Answer, refused}
 use Rattle.meaning.specs.Trees.{Forest, Acyclic}
 use Rattle.meaning.specs.Order.{Asked}
 use Rattle.meaning.specs.Generation.{Request}
 use Rattle.meaning.specs.Asking.{ask_one, ask_all}
+use Rattle.kinds.specs.declared.refusal.Refused.{Refused}
 use Rattle.frames.specs.Order.{expression_limit}
 use Rattle.frames.specs.Tables.{request_in}
 use Rattle.frames.specs.declared.rest.Request as frame
@@ -22,10 +24,7 @@ use Rattle.starkinfo_codegen.specs.Emitting.{Rest, pool_of}
 use Rattle.starkinfo_codegen.specs.Ordering.{marks_of}
 use Rattle.requests.specs.Planning.{request_at, requests_in, Adds, Says, OneAsks, PlanAsks}
 use Rattle.requests.specs.Last.{MarkedBefore, LastSays}
-use Rattle.requests.specs.declared.plan.Plan.{Plan}
-use Rattle.requests.specs.declared.plan.Plan.TheVariants as plan
 use Rattle.requests.specs.declared.last.LastPlan.{LastPlan}
-use Rattle.requests.specs.declared.last.LastPlan.TheVariants as last
 use Rattle.requests.proofs.Plans.{adds_then, stops_then, stays, one_more}
 
 pub mark-at : (s : List ℕ) (e r : ℕ) → r < 2 → ltb 0 (get_or s (2 * e + r) 0) ≡ marks_of s e r
@@ -63,14 +62,11 @@ module _ (w x : List ℕ) (b : Rest) (A : Acyclic (forest (pool_of w b))) {r s j
   before-stops : {f : Refusal} {o : Option ℕ} → first_ones ≡ refused f o → all ≡ refused f o
   before-stops h = stays E r s k (k + 1) h (omega arith)
 
-  module _ (s' j' : List ℕ) (z : Plan) (g : Says first_ones s' j j' 0 z) where
-    pub before-lost : z ≡ plan.NotThere → all ≡ refused Refusal.not_there none
-    before-lost e = before-stops (subst (Says first_ones s' j j' 0) e g)
+  module _ (s' j' : List ℕ) (z : Result ℕ Refused) (g : Says first_ones s' j j' 0 z) where
+    pub before-stopped : {f : Refused} → z ≡ Err f → LastSays (MarkedBefore E r k s) all s' j j' 0 (Err f)
+    before-stopped e = let h = subst (Says first_ones s' j j' 0) e g in (before-stops h.0, h.1)
 
-    pub before-double : {i : ℕ} → z ≡ plan.DoublePrime i → all ≡ refused Refusal.double_prime (some i)
-    before-double e = before-stops (subst (Says first_ones s' j j' 0) e g)
-
-    module _ {n : ℕ} (e : z ≡ plan.Jobs n) where
+    module _ {n : ℕ} (e : z ≡ Ok n) where
       planned : Adds first_ones s' j j' 0 n
       planned = subst (Says first_ones s' j j' 0) e g
 
@@ -90,15 +86,14 @@ module _ (w x : List ℕ) (b : Rest) (A : Acyclic (forest (pool_of w b))) {r s j
       more h = ap (λ (qs : List Request). ask_all 2 E qs (marks_of s)) (one_more E r k) ∙ h
 
       pub final-says :
-          (s'' j'' : List ℕ) (p : LastPlan) → LastSays MarkIs (ask_one 2 E (request_at r k) (marks_of s')) s'' j' j'' n p →
+          (s'' j'' : List ℕ) (p : Result LastPlan Refused) → LastSays MarkIs (ask_one 2 E (request_at r k) (marks_of s')) s'' j' j'' n p →
           LastSays (MarkedBefore E r k s) all s'' j j'' 0 p
-      final-says s'' j'' (last.Jobs v marked) h = (
+      final-says s'' j'' (Ok p) h = (
         rw (one_more E r k) (adds_then E (requests_in r k) (request_at r k) s planned h.0),
         record { before = _; is = planned.is; marked = h.1 },
       )
-      final-says s'' j'' last.NotThere h = more (stops_then E (requests_in r k) (request_at r k) s planned h)
-      final-says s'' j'' (last.DoublePrime i) h = more (stops_then E (requests_in r k) (request_at r k) s planned h)
+      final-says s'' j'' (Err f) h = (more (stops_then E (requests_in r k) (request_at r k) s planned h.0), h.1)
 
 -- what a plan says, by its case
-pub told : (y : Answer Asked) (s' j j' : List ℕ) (n : ℕ) (p q : Plan) → Says y s' j j' n p → p ≡ q → Says y s' j j' n q
+pub told : (y : Answer Asked) (s' j j' : List ℕ) (n : ℕ) (p q : Result ℕ Refused) → Says y s' j j' n p → p ≡ q → Says y s' j j' n q
 told y s' j j' n p q g e = subst (Says y s' j j' n) e g

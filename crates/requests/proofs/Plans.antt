@@ -15,7 +15,9 @@ use Rattle.meaning.specs.Trees as meaning
 use Rattle.meaning.specs.Order.{Asked, nothing, there, ask}
 use Rattle.meaning.specs.Generation.{Request}
 use Rattle.meaning.specs.Asking.{ask_one, ask_all, ask-snoc, ask-refused}
+use Rattle.std.specs.Prelude.{Result, Ok, Err}
 use Rattle.kinds.specs.Write.{write, write-none, write-next}
+use Rattle.kinds.specs.declared.refusal.Refused.{Refused}
 use Rattle.frames.specs.Tables.{request_in, first}
 use Rattle.frames.specs.declared.rest.Request as frame
 use Rattle.pool.specs.Trees.{forest}
@@ -26,8 +28,6 @@ use Rattle.starkinfo_codegen.specs.Ordering.{marks_of, job_words, State, Gives, 
 use Rattle.starkinfo_codegen.specs.JobWords.{words_append, words-length}
 use Rattle.starkinfo_codegen.specs.Requests.{request-asks, request-is}
 use Rattle.requests.specs.Planning.{request_at, requests_in, Adds, Says, OneAsks, PlanAsks}
-use Rattle.requests.specs.declared.plan.Plan.{Plan}
-use Rattle.requests.specs.declared.plan.Plan.TheVariants as plan
 
 -- ── jobs added to jobs ───────────────────────────────────────────────────────
 pub nothing-added : {s j : List ℕ} → State s j 0 → Adds (done (nothing (marks_of s))) s j j 0 0
@@ -145,15 +145,12 @@ module _ (w x : List ℕ) (b : Rest) (A : Acyclic (forest (pool_of w b))) {r s�
         (ap (λ (qs : List Request). ask_all 2 (forest (pool_of w b)) qs (marks_of s₀)) (one_more (forest (pool_of w b)) r k)
         ∙ stops_then (forest (pool_of w b)) (requests_in r k) (request_at r k) s₀ p h) (omega arith)
 
-    module _ (s' j' : List ℕ) (z : Plan) (g : Says one s' j j' n z) where
-      pub advance : {n' : ℕ} → z ≡ plan.Jobs n' → Progress s' j' n' (k + 1)
+    module _ (s' j' : List ℕ) (z : Result ℕ Refused) (g : Says one s' j j' n z) where
+      pub advance : {n' : ℕ} → z ≡ Ok n' → Progress s' j' n' (k + 1)
       advance e = rw (one_more (forest (pool_of w b)) r k) (adds_then (forest (pool_of w b)) (requests_in r k) (request_at r k) s₀ p (subst (Says one s' j j' n) e g))
 
-      pub stop-lost : z ≡ plan.NotThere → all ≡ refused Refusal.not_there none
-      stop-lost e = stop (subst (Says one s' j j' n) e g)
-
-      pub stop-double : {i : ℕ} → z ≡ plan.DoublePrime i → all ≡ refused Refusal.double_prime (some i)
-      stop-double e = stop (subst (Says one s' j j' n) e g)
+      pub stopped : {f : Refused} → z ≡ Err f → Says all s' j₀ j' 0 (Err f)
+      stopped e = let h = subst (Says one s' j j' n) e g in (stop h.0, h.1)
 
   pub finish : {s j : List ℕ} {n k : ℕ} → Progress s j n k → k ≤ count → count ≤ k → Progress s j n count
   finish {s} {j} {n} {k} p l h = let e : k ≡ count = omega arith in subst (Progress s j n) e p

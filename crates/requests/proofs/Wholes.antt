@@ -9,6 +9,8 @@ use native.Mathlib.Omega.{arith}
 use lib.ListN.{length, get_or, replicate}
 use lib.Dec.{leb, ltb}
 use borrow.Author.Tests.{leb-true, ltb-true, lt-ltb, le-leb}
+use Rattle.std.specs.Prelude.{Result, Ok, Err, None}
+use Rattle.std.specs.Prelude as std
 use Rattle.meaning.specs.Refusals.{Refusal, Answer, done, refused, ◌then◌}
 use Rattle.meaning.specs.Trees.{Forest, Acyclic, Each}
 use Rattle.meaning.specs.Order.{Marks, unmarked, Job}
@@ -18,6 +20,9 @@ use Rattle.meaning.specs.Demand3.{NoResult}
 use Rattle.meaning.specs.Asking.{ask_all}
 use Rattle.meaning.proofs.Laws.Once.{all_found}
 use Rattle.kinds.specs.Steps.{step_size}
+use Rattle.kinds.specs.declared.refusal.Refusal as kinds
+use Rattle.kinds.specs.declared.refusal.Refusal.TheVariants as refusal
+use Rattle.kinds.specs.declared.refusal.Refused.{Refused}
 use Rattle.frames.specs.declared.count.Counts.{Counts}
 use Rattle.pool.specs.Trees.{forest}
 use Rattle.pool.specs.Verdict.{Verdict}
@@ -27,12 +32,10 @@ use Rattle.starkinfo_codegen.specs.Requests.{start-state, start-marks}
 use Rattle.starkinfo_codegen.specs.Totals.{counter_is}
 use Rattle.requests.specs.Planning.{request_at, requests_in}
 use Rattle.requests.specs.Making.{steps_from}
-use Rattle.requests.specs.Generating.{number_limit, Fits, Makes, Serves, GenerateAsks}
+use Rattle.requests.specs.Generating.{number_limit, Fits, Makes, Stops, Serves, GenerateAsks}
 use Rattle.requests.specs.Whole.{fitting, served, Answers, whole_says, Tells, FreshAsks, WholeAsked, pool_in}
+use Rattle.requests.specs.declared.whole.Totals.{Totals}
 use Rattle.requests.specs.declared.generate.Generation.{Generation}
-use Rattle.requests.specs.declared.generate.Generation.TheVariants as generation
-use Rattle.requests.specs.declared.whole.Whole.{Whole}
-use Rattle.requests.specs.declared.whole.Whole.TheVariants as whole
 use Rattle.requests.specs.Jobs.{each_first}
 use Rattle.requests.specs.Admitted.{rest}
 use Rattle.requests.specs.Serving.{whole-asks}
@@ -92,7 +95,7 @@ module _ (w x : List ℕ) (b : Rest) (A : Acyclic (forest (pool_of w b))) {r : L
     ask-is = ap (ask_all 2 G qs) (sym (start-marks s z))
 
     tells-refused :
-        {k : Refusal} {o : Option ℕ} (g : Whole) → whole_says g ≡ refused k o → (l : List ℕ) {l' : List ℕ} → served G qs (length l) ≡ refused k o → l' ≡ l →
+        {k : Refusal} {o : Option ℕ} (g : Result Totals Refused) → whole_says g ≡ refused k o → (l : List ℕ) {l' : List ℕ} → served G qs (length l) ≡ refused k o → l' ≡ l →
         Tells (served G qs (length l)) l l' g
     tells-refused g p l e q = rw e (record { says = p; list = q })
 
@@ -103,45 +106,44 @@ module _ (w x : List ℕ) (b : Rest) (A : Acyclic (forest (pool_of w b))) {r : L
       few-jobs : n ≤ steps
       few-jobs = omega (arith, counters, k.count, k.adds.count)
 
-      tells-built : Tells (served G qs (length l)) l l' (whole.Built steps (steps - n))
+      tells-built : Tells (served G qs (length l)) l l' (Ok (record { steps = steps; counter = steps - n }))
       tells-built =
           let f = served-done G qs no_results (length l) (ask-is ∙ k.adds.is) ∙ fits-done G qs no_results k.adds.jobs (marks_of s') (length l) k.fits in
           let t : steps - n ≡ (make G k.adds.jobs 0).counter = omega (arith, counters, k.count, k.adds.count) in
           rw f (record { says = ap (λ u. done (record { steps = steps; counter = u })) t ∙ ap (λ u. done (record { steps = u; counter = (make G k.adds.jobs 0).counter })) k.count; list = k.list })
 
-    module _ (s' j j' l l' : List ℕ) (g : Generation) (d : Serves G (ask_all 2 G qs (marks_of s)) s' j j' l l' 0 0 g) where
-      abbrev S : Generation → Type 0
+    module _ (s' j j' l l' : List ℕ) (g : Result Generation Refused) (d : Serves G (ask_all 2 G qs (marks_of s)) s' j j' l l' 0 0 g) where
+      abbrev S : Result Generation Refused → Type 0
       S = Serves G (ask_all 2 G qs (marks_of s)) s' j j' l l' 0 0
 
-      pub lost : g ≡ generation.NotThere → Tells (served G qs (length l)) l l' whole.Lost
-      lost e = let k = subst S e d in tells-refused whole.Lost refl l (served-refused G qs no_results (length l) (ask-is ∙ k.0)) k.1
+      pub stopped : {f : Refused} → g ≡ Err f → Tells (served G qs (length l)) l l' (Err f)
+      stopped {f} e = go f.refusal f.node (subst S e d)
+        where
+          go :
+              (r : kinds.Refusal) (i : std.Option ℕ) → Stops G (ask_all 2 G qs (marks_of s)) s' j j' l l' 0 0 r i →
+              Tells (served G qs (length l)) l l' (Err (record { refusal = r; node = i }))
+          go refusal.Full None k =
+              tells-refused (Err _) refl l
+              (served-done G qs no_results (length l) (ask-is ∙ k.is) ∙ over-full G qs no_results k.jobs k.marks (length l) k.over) k.kept
+          go r i k = tells-refused (Err _) refl l (served-refused G qs no_results (length l) (ask-is ∙ k.0)) k.1
 
-      pub double : {i : ℕ} → g ≡ generation.DoublePrime i → Tells (served G qs (length l)) l l' (whole.DoublePrime i)
-      double {i} e = let k = subst S e d in tells-refused (whole.DoublePrime i) refl l (served-refused G qs no_results (length l) (ask-is ∙ k.0)) k.1
-
-      pub full : g ≡ generation.Full → Tells (served G qs (length l)) l l' whole.Full
-      full e =
-          let k = subst S e d in
-          tells-refused whole.Full refl l
-          (served-done G qs no_results (length l) (ask-is ∙ k.is) ∙ over-full G qs no_results k.jobs k.marks (length l) k.over) k.kept
-
-      module _ {n steps : ℕ} (e : g ≡ generation.Made n steps) where
-        pub some-steps : n ≤ steps
+      module _ {v : Generation} (e : g ≡ Ok v) where
+        pub some-steps : v.jobs ≤ v.steps
         some-steps = few-jobs (subst S e d)
 
-        pub made : Tells (served G qs (length l)) l l' (whole.Built steps (steps - n))
+        pub made : Tells (served G qs (length l)) l l' (Ok (record { steps = v.steps; counter = v.steps - v.jobs }))
         made = tells-built (subst S e d)
 
 -- ── the pool before them ─────────────────────────────────────────────────────
 module _ (w x r : List ℕ) (c : Counts) (a : WholeAsked w x r c) (literals : List ℕ) where
   -- 2, 3 or 4
   pub pool-refused :
-      {k : Refusal} {o : Option ℕ} → Verdict (pool_in w literals x c) [] (refused k o) → (l : List ℕ) (g : Whole) → whole_says g ≡ refused k o →
+      {k : Refusal} {o : Option ℕ} → Verdict (pool_in w literals x c) [] (refused k o) → (l : List ℕ) (g : Result Totals Refused) → whole_says g ≡ refused k o →
       (z : Answer Segment) × Answers (pool_in w literals x c) (requests_in r c.requests) (length l) z × Tells z l l g
   pool-refused {k} {o} v l g e = (refused k o, (refused k o, v, refl), record { says = e; list = refl })
 
   pub pool-served :
-      Verdict (pool_in w literals x c) [] (done tt) → (l l' : List ℕ) (g : Whole) →
+      Verdict (pool_in w literals x c) [] (done tt) → (l l' : List ℕ) (g : Result Totals Refused) →
       Tells (served (forest (pool_of w (rest w x r c a literals))) (requests_in r c.requests) (length l)) l l' g →
       (z : Answer Segment) × Answers (pool_in w literals x c) (requests_in r c.requests) (length l) z × Tells z l l' g
   pool-served v l l' g t = (served (forest (pool_of w (rest w x r c a literals))) (requests_in r c.requests) (length l), (done tt, v, refl), t)

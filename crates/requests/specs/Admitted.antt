@@ -1,9 +1,10 @@
 -- The pool of what was read, admitted: what its requests may ask of it.
 -- Assumes nothing.
-use Rattle.std.specs.Prelude.{ℕ, ◌+◌, ◌<◌, ◌≤◌, ◌≡◌, refl, List, []}
+use Rattle.std.specs.Prelude.{ℕ, ◌+◌, ◌<◌, ◌≤◌, ◌≡◌, refl, List, [], Result}
 use Rattle.std.proofs.Common.{subst, arith}
 use Rattle.meaning.specs.Refusals.{done}
 use Rattle.meaning.specs.Trees.{Acyclic}
+use Rattle.kinds.specs.declared.refusal.Refused.{Refused}
 use Rattle.frames.specs.declared.count.Counts.{Counts}
 use Rattle.pool.specs.Pool.{Pool}
 use Rattle.pool.specs.Trees.{forest}
@@ -12,16 +13,14 @@ use Rattle.pool.specs.Verdict.{Verdict}
 use Rattle.pool.specs.Exactly.{exactly_0}
 use Rattle.pool.specs.Ranking.{Tabling}
 use Rattle.pool.specs.Admitting.{Admits, verdict_says}
-use Rattle.pool.specs.declared.admit.Admission.{Admission}
-use Rattle.pool.specs.declared.admit.Verdict as admit
 use Rattle.starkinfo_codegen.specs.Words.{node_of_words}
 use Rattle.starkinfo_codegen.specs.Emitting.{Rest, pool_of}
 use Rattle.requests.specs.Whole.{FreshAsks, WholeAsked, pool_in}
 
 -- what admission answers, by its case
 module _ (w x : List ℕ) (c : Counts) (literals : List ℕ) where
-  pub judged_as : {t : List ℕ} {d : Admission} → Admits (Tabling w literals x c.nodes c.expressions) t d → t ≡ [] → {u : admit.Verdict} → d.verdict ≡ u → Verdict (pool_in w literals x c) [] (verdict_says u)
-  judged_as {d = d} h e q = subst (λ z. Verdict (pool_in w literals x c) [] (verdict_says z)) q (subst (λ (t : List ℕ). Verdict (pool_in w literals x c) t (verdict_says d.verdict)) e h.judged)
+  pub judged_as : {t : List ℕ} {d : Result (List ℕ) Refused} → Admits (Tabling w literals x c.nodes c.expressions) t d → t ≡ [] → {u : Result (List ℕ) Refused} → d ≡ u → Verdict (pool_in w literals x c) [] (verdict_says u)
+  judged_as {d = d} h e q = subst (λ z. Verdict (pool_in w literals x c) [] (verdict_says z)) q (subst (λ (t : List ℕ). Verdict (pool_in w literals x c) t (verdict_says d)) e h.judged)
 
 module _ (w x r : List ℕ) (c : Counts) (a : WholeAsked w x r c) (literals : List ℕ) where
   abbrev pub rest : Rest

@@ -1,13 +1,16 @@
 -- Requests served over tables, decided first and then written: what `generate` asks and gives.
 -- Assumes nothing: these are definitions.
-use Rattle.std.specs.Prelude.{ℕ, ◌+◌, ◌*◌, ◌-◌, ◌<◌, ◌≤◌, ◌≡◌, Bool, ◌&&◌, List, length, leb, ltb}
-use Rattle.std.proofs.Math.Option.{none, some}
-use Rattle.meaning.specs.Refusals.{Refusal, Answer, done, refused}
+use Rattle.std.specs.Prelude.{ℕ, ◌+◌, ◌*◌, ◌-◌, ◌<◌, ◌≤◌, ◌≡◌, Bool, ◌&&◌, List, length, leb, ltb, Option, None, Result, Ok, Err}
+use Rattle.meaning.specs.Refusals.{Answer, done, refused}
 use Rattle.meaning.specs.Trees.{Forest, Acyclic}
 use Rattle.meaning.specs.Order.{Marks, Job, Asked}
 use Rattle.meaning.specs.Generation.{make}
 use Rattle.meaning.specs.Asking.{ask_all}
 use Rattle.kinds.specs.Write.{write}
+use Rattle.kinds.specs.Answers.{refusal_of, blame_of}
+use Rattle.kinds.specs.declared.refusal.Refusal.{Refusal}
+use Rattle.kinds.specs.declared.refusal.Refusal.TheVariants as refusal
+use Rattle.kinds.specs.declared.refusal.Refused.{Refused}
 use Rattle.kinds.specs.Steps.{step_size}
 use Rattle.pool.specs.Trees.{forest}
 use Rattle.starkinfo_codegen.specs.Encoding.{encoded}
@@ -16,7 +19,6 @@ use Rattle.starkinfo_codegen.specs.Ordering.{marks_of}
 use Rattle.requests.specs.Planning.{requests_in, Adds, PlanAsks}
 use Rattle.requests.specs.Making.{steps_from, all_steps, JobsAsk}
 use Rattle.requests.specs.declared.generate.Generation.{Generation}
-use Rattle.requests.specs.declared.generate.Generation.TheVariants as generation
 
 -- numbers are 16 bits wide
 abbrev pub number_limit : ℕ
@@ -59,12 +61,15 @@ module _ (E : Forest) (x : Answer Asked) (s' j j' l l' : List ℕ) (at t : ℕ) 
     pub over : Fits E jobs at t (length l) → ⊥
     pub kept : l' ≡ l
 
-  -- WHAT Generation SAYS
-  abbrev pub Serves : Generation → Type 0
-  Serves (generation.Made n steps) = Makes n steps
-  Serves generation.NotThere = (x ≡ refused Refusal.not_there none) × (l' ≡ l)
-  Serves (generation.DoublePrime i) = (x ≡ refused Refusal.double_prime (some i)) × (l' ≡ l)
-  Serves generation.Full = Overflows
+  -- a refusal: the blocks do not fit, or that of the answer, and the list is what it was
+  abbrev pub Stops : Refusal → Option ℕ → Type 0
+  Stops refusal.Full None = Overflows
+  Stops r i = (x ≡ refused (refusal_of r) (blame_of i)) × (l' ≡ l)
+
+  -- WHAT IS SAID of an answer, the tables and the list
+  abbrev pub Serves : Result Generation Refused → Type 0
+  Serves (Ok g) = Makes g.jobs g.steps
+  Serves (Err f) = Stops f.refusal f.node
 
 module _ (w x : List ℕ) (b : Rest) (A : Acyclic (forest (pool_of w b))) where
   pub record GenerateAsks (r s j : List ℕ) (m count at t : ℕ) : Type 0 where
@@ -78,7 +83,7 @@ abbrev pub GenerateAsked : List ℕ → List ℕ → List ℕ → List ℕ → L
 GenerateAsked w x r s j m count at t = (b : Rest) × (A : Acyclic (forest (pool_of w b))) × GenerateAsks w x b A r s j m count at t
 
 abbrev pub GenerateGiven :
-    List ℕ → List ℕ → List ℕ → List ℕ → List ℕ → List ℕ → List ℕ → List ℕ → List ℕ → ℕ → ℕ → ℕ → ℕ → Generation → Type 0
+    List ℕ → List ℕ → List ℕ → List ℕ → List ℕ → List ℕ → List ℕ → List ℕ → List ℕ → ℕ → ℕ → ℕ → ℕ → Result Generation Refused → Type 0
 GenerateGiven w x r s s' j j' l l' m count at t g =
     (b : Rest) (A : Acyclic (forest (pool_of w b))) → GenerateAsks w x b A r s j m count at t →
     Serves (forest (pool_of w b)) (ask_all 2 (forest (pool_of w b)) (requests_in r count) (marks_of s)) s' j j' l l' at t g

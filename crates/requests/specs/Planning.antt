@@ -1,21 +1,23 @@
 -- Requests planned over tables: the jobs that they ask for, or the refusal, as `ask_all` says.
 -- Assumes nothing: these are definitions.
-use Rattle.std.specs.Prelude.{ℕ, ◌+◌, ◌<◌, ◌≤◌, ◌≡◌, List, length, eqb}
-use Rattle.std.proofs.Math.Option.{none, some}
-use Rattle.meaning.specs.Refusals.{Refusal, Answer, done, refused}
+use Rattle.std.specs.Prelude.{ℕ, ◌+◌, ◌<◌, ◌≤◌, ◌≡◌, List, length, eqb, ⊤, Result, Ok, Err}
+use Rattle.std.proofs.Math.Option.{none}
+use Rattle.meaning.specs.Refusals.{Answer, done, refused}
 use Rattle.meaning.specs.Trees.{Acyclic}
 use Rattle.meaning.specs.Order.{Job, Asked}
 use Rattle.meaning.specs.Generation as meaning
 use Rattle.meaning.specs.Asking.{ask_one, ask_all}
 use Rattle.kinds.specs.Write.{write}
+use Rattle.kinds.specs.Answers.{refusal_of, blame_of}
+use Rattle.kinds.specs.declared.refusal.Refusal.{Refusal}
+use Rattle.kinds.specs.declared.refusal.Refusal.TheVariants as refusal
+use Rattle.kinds.specs.declared.refusal.Refused.{Refused}
 use Rattle.frames.specs.Order.{request_limit}
 use Rattle.frames.specs.Tables.{request_in, first}
 use Rattle.frames.specs.declared.rest.Request.{Request}
 use Rattle.pool.specs.Trees.{forest}
 use Rattle.starkinfo_codegen.specs.Emitting.{Rest, pool_of}
 use Rattle.starkinfo_codegen.specs.Ordering.{marks_of, job_words, State, World}
-use Rattle.requests.specs.declared.plan.Plan.{Plan}
-use Rattle.requests.specs.declared.plan.Plan.TheVariants as plan
 
 -- THE REQUEST THAT A FRAME SAYS; it asks for no result
 abbrev pub request_of : Request → meaning.Request
@@ -36,11 +38,20 @@ pub record Adds (x : Answer Asked) (s' j j' : List ℕ) (n r : ℕ) : Type 0 whe
   pub count : r ≡ n + length jobs
   pub state : State s' j' r
 
--- WHAT Plan SAYS of an answer and of the tables after it
-abbrev pub Says : Answer Asked → List ℕ → List ℕ → List ℕ → ℕ → Plan → Type 0
-Says x s' j j' n (plan.Jobs r) = Adds x s' j j' n r
-Says x s' j j' n plan.NotThere = x ≡ refused Refusal.not_there none
-Says x s' j j' n (plan.DoublePrime i) = x ≡ refused Refusal.double_prime (some i)
+-- the refusals of a request: 3 and 5
+abbrev pub OfRequest : Refusal → Type 0
+OfRequest refusal.NotThere = ⊤
+OfRequest refusal.DoublePrime = ⊤
+OfRequest r = ⊥
+
+-- the refusal of an answer
+abbrev pub Refuses : Answer Asked → Refused → Type 0
+Refuses x f = (x ≡ refused (refusal_of f.refusal) (blame_of f.node)) × OfRequest f.refusal
+
+-- WHAT IS SAID of an answer and of the tables after it: how many jobs there are, or the refusal
+abbrev pub Says : Answer Asked → List ℕ → List ℕ → List ℕ → ℕ → Result ℕ Refused → Type 0
+Says x s' j j' n (Ok r) = Adds x s' j j' n r
+Says x s' j j' n (Err f) = Refuses x f
 
 module _ (w x : List ℕ) (b : Rest) (A : Acyclic (forest (pool_of w b))) where
   pub record OneAsks (r s j : List ℕ) (m n k : ℕ) : Type 0 where
@@ -61,7 +72,7 @@ module _ (w x : List ℕ) (b : Rest) (A : Acyclic (forest (pool_of w b))) where
 abbrev pub OneAsked : List ℕ → List ℕ → List ℕ → List ℕ → List ℕ → ℕ → ℕ → ℕ → Type 0
 OneAsked w x r s j m n k = (b : Rest) × (A : Acyclic (forest (pool_of w b))) × OneAsks w x b A r s j m n k
 
-abbrev pub OneGiven : List ℕ → List ℕ → List ℕ → List ℕ → List ℕ → List ℕ → List ℕ → ℕ → ℕ → ℕ → Plan → Type 0
+abbrev pub OneGiven : List ℕ → List ℕ → List ℕ → List ℕ → List ℕ → List ℕ → List ℕ → ℕ → ℕ → ℕ → Result ℕ Refused → Type 0
 OneGiven w x r s s' j j' m n k p =
     (b : Rest) (A : Acyclic (forest (pool_of w b))) → OneAsks w x b A r s j m n k →
     Says (ask_one 2 (forest (pool_of w b)) (request_at r k) (marks_of s)) s' j j' n p
@@ -69,7 +80,7 @@ OneGiven w x r s s' j j' m n k p =
 abbrev pub PlanAsked : List ℕ → List ℕ → List ℕ → List ℕ → List ℕ → ℕ → ℕ → Type 0
 PlanAsked w x r s j m count = (b : Rest) × (A : Acyclic (forest (pool_of w b))) × PlanAsks w x b A r s j m count
 
-abbrev pub PlanGiven : List ℕ → List ℕ → List ℕ → List ℕ → List ℕ → List ℕ → List ℕ → ℕ → ℕ → Plan → Type 0
+abbrev pub PlanGiven : List ℕ → List ℕ → List ℕ → List ℕ → List ℕ → List ℕ → List ℕ → ℕ → ℕ → Result ℕ Refused → Type 0
 PlanGiven w x r s s' j j' m count p =
     (b : Rest) (A : Acyclic (forest (pool_of w b))) → PlanAsks w x b A r s j m count →
     Says (ask_all 2 (forest (pool_of w b)) (requests_in r count) (marks_of s)) s' j j' 0 p

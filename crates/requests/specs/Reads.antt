@@ -1,6 +1,6 @@
 -- Tables that hold what was read: the whole run over them is that of what was read.
 -- Assumes nothing.
-use Rattle.std.specs.Prelude.{ℕ, zero, suc, ◌≡◌, List, [], ◌∷◌, ◌++◌, map, length}
+use Rattle.std.specs.Prelude.{ℕ, zero, suc, ◌≡◌, List, [], ◌∷◌, ◌++◌, map, length, Result, Ok, Err}
 use Rattle.std.proofs.Math.Path.{refl}
 use Rattle.std.proofs.Common.{sym, ◌∙◌, ap, subst}
 use Rattle.std.proofs.Math.Option.{Option}
@@ -8,7 +8,9 @@ use Rattle.meaning.specs.Refusals.{Refusal, Answer, done, refused}
 use Rattle.meaning.proofs.Laws.Tests.{done-same, done-not-refused}
 use Rattle.meaning.specs.Generation as meaning
 use Rattle.meaning.specs.Building.{Segment}
-use Rattle.frames.specs.Order.{Input, nothing, blame_answer}
+use Rattle.kinds.specs.Answers.{refusal_of, blame_of}
+use Rattle.kinds.specs.declared.refusal.Refused.{Refused}
+use Rattle.frames.specs.Order.{Input, nothing}
 use Rattle.frames.specs.Tables.{Tables, request_in, first, input_in}
 use Rattle.frames.specs.Reading.{frames_in, read_from, reading, held, Fills}
 use Rattle.frames.specs.Exactly.{read_as}
@@ -17,28 +19,24 @@ use Rattle.frames.specs.TextLaws.{text_as}
 use Rattle.frames.specs.Limits.{held-within}
 use Rattle.frames.specs.Ranges.{held-ranged}
 use Rattle.frames.specs.declared.count.Counts.{Counts}
-use Rattle.frames.specs.declared.count.Blame.{Blame}
-use Rattle.frames.specs.declared.count.Reading.{Reading}
-use Rattle.frames.specs.declared.count.Reading.TheVariants as was
 use Rattle.pool.specs.Pool.{Pool}
 use Rattle.pool.specs.Tabled.{tabled}
 use Rattle.pool.specs.Numbered.{pool_of}
 use Rattle.requests.specs.Planning.{request_of, requests_in}
 use Rattle.requests.specs.Whole.{Answers, WholeAsked, WholeGiven, pool_in}
+use Rattle.requests.specs.declared.whole.Totals.{Totals}
 use Rattle.requests.specs.Runs.{requests_of, Runs, RunIs}
-use Rattle.requests.specs.declared.whole.Whole.{Whole}
-use Rattle.requests.specs.declared.run.Outcome.TheVariants as outcome
 
 -- what was read of some frames stands in tables
-pub record ReadInto (u : Tables) (r : Reading) (x : Answer Input) : Type 0 where
+pub record ReadInto (u : Tables) (r : Result Counts Refused) (x : Answer Input) : Type 0 where
   pub given : List (List ℕ)
   pub read : x ≡ read_from nothing given
   pub answer : held u r ≡ x
 
-pub of-slice : {u : Tables} {s : List ℕ} {r : Reading} → Fills s r u → ReadInto u r (reading s)
+pub of-slice : {u : Tables} {s : List ℕ} {r : Result Counts Refused} → Fills s r u → ReadInto u r (reading s)
 of-slice {s = s} h = record { given = frames_in s; read = read_as s; answer = h.answer }
 
-pub of-text : {u : Tables} {t : List ℕ} {r : Reading} → FillsText t r u → ReadInto u r (reading_text t)
+pub of-text : {u : Tables} {t : List ℕ} {r : Result Counts Refused} → FillsText t r u → ReadInto u r (reading_text t)
 of-text {t = t} h = record { given = text_frames t; read = text_as t; answer = h.answer }
 
 map_first : {A B : Type 0} (f : A → B) (g : ℕ → A) (n : ℕ) → map f (first g n) ≡ first (λ k. f (g k)) n
@@ -63,7 +61,7 @@ unread-runs room h = record {
         let q : o ≡ o' = cc in
         rw (p, q)
 
-module _ {u : Tables} {x : Answer Input} {r : Reading} (a : ReadInto u r x) {c : Counts} (q : r ≡ was.Read c) where
+module _ {u : Tables} {x : Answer Input} {r : Result Counts Refused} (a : ReadInto u r x) {c : Counts} (q : r ≡ Ok c) where
   pub read_is : done (input_in u c) ≡ x
   read_is = ap (held u) (sym q) ∙ a.answer
 
@@ -93,15 +91,12 @@ module _ {u : Tables} {x : Answer Input} {r : Reading} (a : ReadInto u r x) {c :
   }
 
 -- ── what the code answers ────────────────────────────────────────────────────
-module _ {u : Tables} {x : Answer Input} {r : Reading} (a : ReadInto u r x) where
-  pub malformed-run : {b : Blame} → r ≡ was.Malformed b → (l : List ℕ) → RunIs x l l (outcome.Malformed b)
-  malformed-run {b} q l = record { answer = refused Refusal.malformed (blame_answer b); runs = unread-runs (length l) (ap (held u) (sym q) ∙ a.answer); says = refl; list = refl }
-
-  pub limit-run : {b : Blame} → r ≡ was.Full b → (l : List ℕ) → RunIs x l l (outcome.Limit b)
-  limit-run {b} q l = record { answer = refused Refusal.full (blame_answer b); runs = unread-runs (length l) (ap (held u) (sym q) ∙ a.answer); says = refl; list = refl }
+module _ {u : Tables} {x : Answer Input} {r : Result Counts Refused} (a : ReadInto u r x) where
+  pub refused-run : {f : Refused} → r ≡ Err f → (l : List ℕ) → RunIs x l l (Err f)
+  refused-run {f} q l = record { answer = refused (refusal_of f.refusal) (blame_of f.node); runs = unread-runs (length l) (ap (held u) (sym q) ∙ a.answer); says = refl; list = refl }
 
   pub ran-run :
-      {c : Counts} → r ≡ was.Read c → (l l' : List ℕ) (g : Whole) → WholeGiven u.nodes u.expressions u.requests l l' c g → RunIs x l l' (outcome.Ran g)
+      {c : Counts} → r ≡ Ok c → (l l' : List ℕ) (g : Result Totals Refused) → WholeGiven u.nodes u.expressions u.requests l l' c g → RunIs x l l' g
   ran-run {c} q l l' g h =
       let t = h u.literals in
       record { answer = t.0; runs = read-runs a q (length l) t.1; says = t.2.says; list = t.2.list }

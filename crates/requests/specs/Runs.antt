@@ -1,18 +1,19 @@
 -- FROM BYTES TO THE ANSWER: a slice of frames or a text of them, read, admitted and served on a fresh context.
 -- Assumes nothing: these are definitions.
-use Rattle.std.specs.Prelude.{ℕ, ◌≡◌, List, map, length}
+use Rattle.std.specs.Prelude.{ℕ, ◌≡◌, List, map, length, Result}
 use Rattle.std.proofs.Math.Option.{Option}
 use Rattle.meaning.specs.Refusals.{Refusal, Answer, done, refused, ◌then◌}
 use Rattle.meaning.specs.Generation.{Request}
 use Rattle.meaning.specs.Building.{Segment}
-use Rattle.frames.specs.Order.{Input, blame_answer}
+use Rattle.kinds.specs.Answers.{answer_of}
+use Rattle.kinds.specs.declared.refusal.Refused.{Refused}
+use Rattle.frames.specs.Order.{Input}
 use Rattle.frames.specs.Reading.{reading}
 use Rattle.frames.specs.Text.{reading_text}
 use Rattle.pool.specs.Numbered.{pool_of}
 use Rattle.requests.specs.Planning.{request_of}
-use Rattle.requests.specs.Whole.{Answers, Totals, totals, whole_says, list_after}
-use Rattle.requests.specs.declared.run.Outcome.{Outcome}
-use Rattle.requests.specs.declared.run.Outcome.TheVariants as outcome
+use Rattle.requests.specs.Whole.{Answers, totals, list_after}
+use Rattle.requests.specs.declared.whole.Totals.{Totals}
 
 abbrev pub requests_of : Input → List Request
 requests_of i = map request_of i.requests
@@ -30,11 +31,13 @@ BytesRun s room a = Runs (reading s) room a
 abbrev pub TextRun : List ℕ → ℕ → Answer Segment → Type 0
 TextRun t room a = Runs (reading_text t) room a
 
--- WHAT Outcome SAYS
+-- the answer to a whole run
+abbrev pub Outcome : Type 0
+Outcome = Result Totals Refused
+
+-- WHAT IT SAYS
 abbrev pub outcome_says : Outcome → Answer Totals
-outcome_says (outcome.Malformed b) = refused Refusal.malformed (blame_answer b)
-outcome_says (outcome.Limit b) = refused Refusal.full (blame_answer b)
-outcome_says (outcome.Ran r) = whole_says r
+outcome_says r = answer_of r
 
 -- the answer, its totals and the list after it
 pub record RunIs (x : Answer Input) (l l' : List ℕ) (r : Outcome) : Type 0 where

@@ -1,13 +1,15 @@
 -- THE WHOLE RUN: the answer to a pool and its requests on a fresh context, and what stands in the lent list after it.
 -- Assumes nothing: these are definitions.
-use Rattle.std.specs.Prelude.{ℕ, ◌*◌, ◌<◌, ◌≤◌, ◌≡◌, ◌&&◌, cond, List, [], length, leb, ltb}
-use Rattle.std.proofs.Math.Option.{none, some}
+use Rattle.std.specs.Prelude.{ℕ, ◌*◌, ◌<◌, ◌≤◌, ◌≡◌, ◌&&◌, cond, List, [], length, leb, ltb, Result}
+use Rattle.std.proofs.Math.Option.{none}
 use Rattle.meaning.specs.Refusals.{Refusal, Answer, done, refused, ◌then◌}
 use Rattle.meaning.specs.Trees.{Forest, Acyclic}
 use Rattle.meaning.specs.Generation.{Request}
 use Rattle.meaning.specs.Building as meaning
 use Rattle.kinds.specs.Write.{write}
 use Rattle.kinds.specs.Steps.{step_size}
+use Rattle.kinds.specs.Answers.{answer_of}
+use Rattle.kinds.specs.declared.refusal.Refused.{Refused}
 use Rattle.frames.specs.Order.{request_limit}
 use Rattle.frames.specs.Tables.{next_in, request_in}
 use Rattle.frames.specs.declared.count.Counts.{Counts}
@@ -21,8 +23,7 @@ use Rattle.starkinfo_codegen.specs.Emitting.{Rest, pool_of, RowFits}
 use Rattle.starkinfo_codegen.specs.Ordering.{World}
 use Rattle.requests.specs.Planning.{requests_in}
 use Rattle.requests.specs.Generating.{number_limit}
-use Rattle.requests.specs.declared.whole.Whole.{Whole}
-use Rattle.requests.specs.declared.whole.Whole.TheVariants as whole
+use Rattle.requests.specs.declared.whole.Totals.{Totals}
 
 -- ── the answer ───────────────────────────────────────────────────────────────
 -- 9, last: the list or its counter does not fit
@@ -38,22 +39,12 @@ abbrev pub Answers : Pool → List Request → ℕ → Answer meaning.Segment �
 Answers p qs room a = (v : Answer (Unit {0})) × Verdict p [] v × (a ≡ (v then λ _. served (forest p) qs room))
 
 -- ── what the code answers ────────────────────────────────────────────────────
-pub record Totals : Type 0 where
-  pub steps : ℕ
-  pub counter : ℕ
-
 abbrev pub totals : meaning.Segment → Totals
 totals s = record { steps = length s.first; counter = s.counter }
 
--- WHAT Whole SAYS
-abbrev pub whole_says : Whole → Answer Totals
-whole_says (whole.ChildCount i) = refused Refusal.child_count (some i)
-whole_says (whole.NotThere i) = refused Refusal.not_there (some i)
-whole_says whole.Lost = refused Refusal.not_there none
-whole_says (whole.Cycle i) = refused Refusal.cycle (some i)
-whole_says (whole.DoublePrime i) = refused Refusal.double_prime (some i)
-whole_says whole.Full = refused Refusal.full none
-whole_says (whole.Built n t) = done (record { steps = n; counter = t })
+-- WHAT A WHOLE RUN SAYS
+abbrev pub whole_says : Result Totals Refused → Answer Totals
+whole_says r = answer_of r
 
 -- the lent list after an answer: its first list at the front, or what it was
 abbrev pub list_after : List ℕ → Answer meaning.Segment → List ℕ
@@ -61,7 +52,7 @@ list_after l (done s) = write l 0 (encoded s.first)
 list_after l (refused k o) = l
 
 -- the totals and the list of an answer
-pub record Tells (a : Answer meaning.Segment) (l l' : List ℕ) (r : Whole) : Type 0 where
+pub record Tells (a : Answer meaning.Segment) (l l' : List ℕ) (r : Result Totals Refused) : Type 0 where
   pub says : whole_says r ≡ (a then λ s. done (totals s))
   pub list : l' ≡ list_after l a
 
@@ -76,7 +67,7 @@ pub record FreshAsks (w x : List ℕ) (b : Rest) (A : Acyclic (forest (pool_of w
 abbrev pub FreshAsked : List ℕ → List ℕ → List ℕ → ℕ → ℕ → Type 0
 FreshAsked w x r m count = (b : Rest) × (A : Acyclic (forest (pool_of w b))) × FreshAsks w x b A r m count
 
-abbrev pub FreshGiven : List ℕ → List ℕ → List ℕ → List ℕ → List ℕ → ℕ → ℕ → Whole → Type 0
+abbrev pub FreshGiven : List ℕ → List ℕ → List ℕ → List ℕ → List ℕ → ℕ → ℕ → Result Totals Refused → Type 0
 FreshGiven w x r l l' m count g =
     (b : Rest) (A : Acyclic (forest (pool_of w b))) → FreshAsks w x b A r m count → Tells (served (forest (pool_of w b)) (requests_in r count) (length l)) l l' g
 
@@ -92,6 +83,6 @@ pub record WholeAsked (w x r : List ℕ) (c : Counts) : Type 0 where
 abbrev pub pool_in : List ℕ → List ℕ → List ℕ → Counts → Pool
 pool_in w literals x c = tabled (Tabling w literals x c.nodes c.expressions)
 
-abbrev pub WholeGiven : List ℕ → List ℕ → List ℕ → List ℕ → List ℕ → Counts → Whole → Type 0
+abbrev pub WholeGiven : List ℕ → List ℕ → List ℕ → List ℕ → List ℕ → Counts → Result Totals Refused → Type 0
 WholeGiven w x r l l' c g =
     (literals : List ℕ) → (a : Answer meaning.Segment) × Answers (pool_in w literals x c) (requests_in r c.requests) (length l) a × Tells a l l' g

@@ -3,9 +3,10 @@ ghost use Rattle.std.specs.Prelude.{◌≡◌, length, ◌≤◌};
 ghost use Rattle.requests.specs.Generating.{has_room, FitAsked, FitGiven, GenerateAsked, GenerateGiven};
 
 use crate::make::{make_counted, size_all};
-use crate::plan::{Plan, plan_all};
+use crate::plan::plan_all;
 use frames::count::{EXPRESSION_LIMIT, REQUEST_LIMIT};
 use frames::tables::NODE_WORDS;
+use kinds::refusal::{Refusal, Refused};
 use kinds::step::STEP_SIZE;
 use starkinfo_codegen::order::JOB_LIMIT;
 
@@ -15,13 +16,11 @@ pub const TEMPORARY_LIMIT: usize = 65536;
 // The blocks of a plan have no more steps than two for each node. Where there is room for so many, none is counted.
 const MOST_STEPS: usize = 8192;
 
-// How many jobs and steps there are, or the refusal.
-#[derive(Drop)]
-pub enum Generation {
-    Made { jobs: usize, steps: usize },
-    NotThere,
-    DoublePrime(usize),
-    Full,
+// How many jobs and steps there are.
+#[derive(Clone, Copy, Debug, PartialEq, Eq)]
+pub struct Generation {
+    pub jobs: usize,
+    pub steps: usize,
 }
 
 // Is there room for so many steps more after `at`, and are there numbers for the counter after the `jobs` blocks that they make up?
@@ -68,22 +67,17 @@ pub fn generate(
     count: usize,
     at: usize,
     t: usize,
-) -> Generation
+) -> Result<Generation, Refused>
     requires { GenerateAsked nodes.now expressions.now requests.now marks.old jobs.old m count at t }
     ensures { GenerateGiven nodes.now expressions.now requests.now marks.old marks.new jobs.old jobs.new list.old list.new m count at t result }
 {
-    match plan_all(nodes, expressions, requests, marks, jobs, m, count) {
-        Plan::NotThere => Generation::NotThere,
-        Plan::DoublePrime(i) => Generation::DoublePrime(i),
-        Plan::Jobs(n) => {
-            if !jobs_fit(nodes, expressions, jobs, list, n, at, t) {
-                return Generation::Full;
-            }
-            let end = make_counted(nodes, expressions, jobs, list, n, at, t);
-            Generation::Made {
-                jobs: n,
-                steps: end - at,
-            }
-        }
+    let n = plan_all(nodes, expressions, requests, marks, jobs, m, count)?;
+    if !jobs_fit(nodes, expressions, jobs, list, n, at, t) {
+        return Err(Refusal::Full.into());
     }
+    let end = make_counted(nodes, expressions, jobs, list, n, at, t);
+    Ok(Generation {
+        jobs: n,
+        steps: end - at,
+    })
 }

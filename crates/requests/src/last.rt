@@ -5,18 +5,18 @@ ghost use Rattle.starkinfo_codegen.specs.Ordering.{marks_of};
 ghost use Rattle.requests.specs.Planning.{OneAsked};
 ghost use Rattle.requests.specs.Last.{FinalGiven, LastAsked, LastGiven};
 
-use crate::plan::{Plan, plan_all, plan_request};
+use crate::plan::{plan_all, plan_request};
 use frames::count::{EXPRESSION_LIMIT, REQUEST_LIMIT};
 use frames::tables::{NODE_WORDS, request_at};
+use kinds::refusal::{Refusal, Refused};
 use starkinfo_codegen::order::JOB_LIMIT;
 use starkinfo_codegen::out::ROWS;
 
-// How many jobs there are, and was the last request's cell marked before its turn? Or the refusal.
-#[derive(Drop)]
-pub enum LastPlan {
-    Jobs { jobs: usize, marked: bool },
-    NotThere,
-    DoublePrime(usize),
+// How many jobs there are, and was the last request's cell marked before its turn?
+#[derive(Clone, Copy, Debug, PartialEq, Eq)]
+pub struct LastPlan {
+    pub jobs: usize,
+    pub marked: bool,
 }
 
 fn is_marked(marks: &[u8; JOB_LIMIT], e: usize, row: usize) -> bool
@@ -36,24 +36,21 @@ fn plan_final(
     m: usize,
     n: usize,
     k: usize,
-) -> LastPlan
+) -> Result<LastPlan, Refused>
     requires { OneAsked nodes.now expressions.now requests.now marks.old jobs.old m n k }
     ensures { FinalGiven nodes.now expressions.now requests.now marks.old marks.new jobs.old jobs.new m n k result }
 {
     let q = request_at(requests, k);
     let e = q.expression as usize;
     if m <= e {
-        return LastPlan::NotThere;
+        return Err(Refusal::NotThere.into());
     }
     let marked = is_marked(marks, e, q.prime as usize);
-    match plan_request(nodes, expressions, requests, marks, jobs, m, n, k) {
-        Plan::NotThere => LastPlan::NotThere,
-        Plan::DoublePrime(i) => LastPlan::DoublePrime(i),
-        Plan::Jobs(after) => LastPlan::Jobs {
-            jobs: after,
-            marked: marked,
-        },
-    }
+    let after = plan_request(nodes, expressions, requests, marks, jobs, m, n, k)?;
+    Ok(LastPlan {
+        jobs: after,
+        marked,
+    })
 }
 
 // Requests up to number `k`, which is the last.
@@ -65,13 +62,10 @@ pub fn plan_last(
     jobs: &mut [u64; JOB_LIMIT],
     m: usize,
     k: usize,
-) -> LastPlan
+) -> Result<LastPlan, Refused>
     requires { LastAsked nodes.now expressions.now requests.now marks.old jobs.old m k }
     ensures { LastGiven nodes.now expressions.now requests.now marks.old marks.new jobs.old jobs.new m k result }
 {
-    match plan_all(nodes, expressions, requests, marks, jobs, m, k) {
-        Plan::NotThere => LastPlan::NotThere,
-        Plan::DoublePrime(i) => LastPlan::DoublePrime(i),
-        Plan::Jobs(n) => plan_final(nodes, expressions, requests, marks, jobs, m, n, k),
-    }
+    let n = plan_all(nodes, expressions, requests, marks, jobs, m, k)?;
+    plan_final(nodes, expressions, requests, marks, jobs, m, n, k)
 }

@@ -2,22 +2,18 @@
 ghost use Rattle.std.specs.Prelude.{length};
 ghost use Rattle.requests.specs.Whole.{FreshAsked, FreshGiven, WholeAsked, WholeGiven};
 
-use crate::generate::{Generation, generate};
+use crate::generate::generate;
 use frames::count::{Counts, EXPRESSION_LIMIT, REQUEST_LIMIT};
 use frames::tables::NODE_WORDS;
-use pool::admit::{Verdict, admit};
+use kinds::refusal::Refused;
+use pool::admit::admit;
 use starkinfo_codegen::order::JOB_LIMIT;
 
-// How many steps and temporaries there are, or the refusal with the node to blame; a root or a request's expression that is not there has none.
-#[derive(Clone, Copy)]
-pub enum Whole {
-    ChildCount(usize),
-    NotThere(usize),
-    Lost,
-    Cycle(usize),
-    DoublePrime(usize),
-    Full,
-    Built { steps: usize, counter: usize },
+// How many steps and temporaries there are.
+#[derive(Clone, Copy, Debug, PartialEq, Eq)]
+pub struct Totals {
+    pub steps: usize,
+    pub counter: usize,
 }
 
 // The requests of a pool that is admitted.
@@ -28,13 +24,13 @@ fn serve_fresh(
     list: &mut [u8],
     m: usize,
     count: usize,
-) -> Whole
+) -> Result<Totals, Refused>
     requires { FreshAsked nodes.now expressions.now requests.now m count }
     ensures { FreshGiven nodes.now expressions.now requests.now list.old list.new m count result }
 {
     let mut marks = [0u8; JOB_LIMIT];
     let mut jobs = [0u64; JOB_LIMIT];
-    match generate(
+    let made = generate(
         nodes,
         expressions,
         requests,
@@ -45,15 +41,11 @@ fn serve_fresh(
         count,
         0,
         0,
-    ) {
-        Generation::NotThere => Whole::Lost,
-        Generation::DoublePrime(i) => Whole::DoublePrime(i),
-        Generation::Full => Whole::Full,
-        Generation::Made { jobs: n, steps } => Whole::Built {
-            steps: steps,
-            counter: steps - n,
-        },
-    }
+    )?;
+    Ok(Totals {
+        steps: made.steps,
+        counter: made.steps - made.jobs,
+    })
 }
 
 // Writes the first list at the front of `list`. Where the pool or a request is refused, or the list does not fit, nothing is written.
@@ -63,25 +55,18 @@ pub fn whole_run(
     requests: &[u64; REQUEST_LIMIT],
     list: &mut [u8],
     c: Counts,
-) -> Whole
+) -> Result<Totals, Refused>
     requires { WholeAsked nodes.now expressions.now requests.now c }
     ensures { WholeGiven nodes.now expressions.now requests.now list.old list.new c result }
 {
     let no_table = [0u8; 0];
-    let admission = admit(nodes, expressions, &no_table, c.nodes, c.expressions);
-    let verdict = admission.verdict;
-    match verdict {
-        Verdict::ChildCount(i) => Whole::ChildCount(i),
-        Verdict::NotThere(i) => Whole::NotThere(i),
-        Verdict::LostRoot => Whole::Lost,
-        Verdict::Cycle(i) => Whole::Cycle(i),
-        Verdict::Admitted => serve_fresh(
-            nodes,
-            expressions,
-            requests,
-            list,
-            c.expressions,
-            c.requests,
-        ),
-    }
+    admit(nodes, expressions, &no_table, c.nodes, c.expressions)?;
+    serve_fresh(
+        nodes,
+        expressions,
+        requests,
+        list,
+        c.expressions,
+        c.requests,
+    )
 }

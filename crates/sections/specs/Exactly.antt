@@ -1,14 +1,14 @@
 -- EACH ANSWER OF map_section EXACTLY WHEN, for all lists; and only one outcome fits what it promises.
 -- Assumes nothing.
-use Rattle.std.specs.Prelude.{ℕ, ◌<◌, ◌≤◌, ◌≡◌, refl, Bool, true, false, List, ◌↔◌, length, leb}
+use Rattle.std.specs.Prelude.{ℕ, ◌<◌, ◌≤◌, ◌≡◌, refl, Bool, true, false, List, ◌↔◌, length, leb, Result}
 use Rattle.std.proofs.Common.{sym, ◌∙◌, ap, arith}
 use Rattle.std.proofs.Math.Option.{none}
 use borrow.Author.Tests.{le-leb, lt-leb, leb-true, leb-false}
 use Rattle.meaning.specs.Refusals.{Refusal, Answer, done, refused, answer_no}
 use Rattle.sections.specs.Sections.{record_limit, Mapping, well_formed, mapping, positions_from, widths}
-use Rattle.sections.specs.Answer.{mapped_no, MappedIs}
-use Rattle.sections.specs.declared.map_section.Mapped.{Mapped}
-use Rattle.sections.specs.declared.map_section.Mapped.TheVariants as answer
+use Rattle.sections.specs.Answer.{MappedIs}
+use Rattle.kinds.specs.AnswerLaws.{plain_same}
+use Rattle.kinds.specs.declared.refusal.Refusal as codes
 
 module _ (ss ds ps : List ℕ) (room : ℕ) where
   abbrev given_answer : Answer Mapping
@@ -71,19 +71,8 @@ module _ (ss ds ps : List ℕ) (room : ℕ) where
 
 -- ---- only one outcome fits
 
-number_same : (r q : Mapped) → mapped_no r ≡ mapped_no q → r ≡ q
-number_same answer.Malformed answer.Malformed e = refl
-number_same answer.Malformed answer.Full e = absurd (omega (arith, e))
-number_same answer.Malformed answer.Done e = absurd (omega (arith, e))
-number_same answer.Full answer.Malformed e = absurd (omega (arith, e))
-number_same answer.Full answer.Full e = refl
-number_same answer.Full answer.Done e = absurd (omega (arith, e))
-number_same answer.Done answer.Malformed e = absurd (omega (arith, e))
-number_same answer.Done answer.Full e = absurd (omega (arith, e))
-number_same answer.Done answer.Done e = refl
-
 pub one-mapping :
-    (ss ds ps ws : List ℕ) {ps₁ ps₂ ws₁ ws₂ : List ℕ} {r₁ r₂ : Mapped}
+    (ss ds ps ws : List ℕ) {ps₁ ps₂ ws₁ ws₂ : List ℕ} {r₁ r₂ : Result Unit codes.Refusal}
     → MappedIs ss ds ps ps₁ ws ws₁ r₁ → MappedIs ss ds ps ps₂ ws ws₂ r₂ → (r₁ ≡ r₂) × (ps₁ ≡ ps₂) × (ws₁ ≡ ws₂)
 one-mapping ss ds ps ws {ps₁} {ps₂} {ws₁} {ws₂} {r₁} {r₂} a b =
-    (number_same r₁ r₂ (a.says ∙ sym b.says), a.positions ∙ sym b.positions, a.widths ∙ sym b.widths)
+    (plain_same r₁ r₂ (a.says ∙ sym b.says), a.positions ∙ sym b.positions, a.widths ∙ sym b.widths)

@@ -3,6 +3,8 @@
 use Rattle.std.specs.Prelude.{ℕ, ◌+◌, ◌*◌, ◌/◌, ◌≤◌, ◌<◌, ◌≡◌, cond, ◌&&◌, List, length, get_or, set, eqb, leb}
 use Rattle.sections.specs.Sums.{sum}
 use Rattle.sections.specs.Sections.{section_count, record_limit}
+use Rattle.sections.specs.declared.groups.Width.{Width}
+use Rattle.sections.specs.declared.groups.Width.TheVariants as width
 
 -- the dimensions 0 to 3 of each section
 abbrev pub group_count : ℕ
@@ -41,13 +43,11 @@ next_in all gone s d old =
     (cond (eqb d 2) (get_or all (group_at s 1) 0 + get_or gone (group_at s 2) 0)
     (cond (eqb d 3) (get_or all (group_at s 1) 0 + get_or all (group_at s 2) 0 + get_or gone (group_at s 3) 0) old))
 
--- the widths of a section, by number: N1, N, N3
-unfoldable pub width_in : List ℕ → ℕ → ℕ → ℕ
-width_in groups which s =
-    cond (eqb which 0) (get_or groups (group_at s 1) 0)
-    (cond (eqb which 1)
-    (get_or groups (group_at s 1) 0 + get_or groups (group_at s 2) 0 + get_or groups (group_at s 3) 0)
-    ((get_or groups (group_at s 2) 0 + get_or groups (group_at s 3) 0) / 3))
+-- the widths of a section: N1, N, N3
+abbrev pub width_in : List ℕ → Width → ℕ → ℕ
+width_in groups width.First s = get_or groups (group_at s 1) 0
+width_in groups width.Whole s = get_or groups (group_at s 1) 0 + get_or groups (group_at s 2) 0 + get_or groups (group_at s 3) 0
+width_in groups width.Third s = (get_or groups (group_at s 2) 0 + get_or groups (group_at s 3) 0) / 3
 
 -- how many records are read before one is past the limit
 unfoldable pub count_to_read : ℕ → ℕ

@@ -14,12 +14,13 @@ const STRIDE: usize = DIMENSIONS as usize + 1;
 
 pub const GROUPS: usize = STRIDE * Section::COUNT;
 
-// Which width of a section: after dimension 1, after dimension 3, and a third of what lies between.
-pub const FIRST: usize = 0;
-
-pub const WHOLE: usize = 1;
-
-pub const THIRD: usize = 2;
+// The widths of a section: after dimension 1, after dimension 3, and a third of what lies between.
+#[derive(Clone, Copy)]
+pub enum Width {
+    First,
+    Whole,
+    Third,
+}
 
 fn group(section: u16, dim: usize) -> usize
     requires { (section < section_count) × (dim ≤ 3) }
@@ -77,26 +78,28 @@ pub fn place(sections: &[u16], dims: &[u16], all: &[u16; GROUPS], positions: &mu
     }
 }
 
-fn width(groups: &[u16; GROUPS], which: usize, section: u16) -> u16
-    requires { (section < section_count) × (Small groups.now) }
-    ensures { result ≡ width_in groups.now which section }
-{
-    let one = groups[group(section, 1)];
-    let two = groups[group(section, 2)];
-    let three = groups[group(section, 3)];
-    match which {
-        FIRST => one,
-        WHOLE => one + two + three,
-        _ => (two + three) / 3,
+impl Width {
+    fn of(self, groups: &[u16; GROUPS], section: u16) -> u16
+        requires { (section < section_count) × (Small groups.now) }
+        ensures { result ≡ width_in groups.now self section }
+    {
+        let one = groups[group(section, 1)];
+        let two = groups[group(section, 2)];
+        let three = groups[group(section, 3)];
+        match self {
+            Width::First => one,
+            Width::Whole => one + two + three,
+            Width::Third => (two + three) / 3,
+        }
     }
 }
 
 // Writes one of the widths of each section.
-pub fn put_widths(groups: &[u16; GROUPS], which: usize, widths: &mut [u16], at: usize)
+pub fn put_widths(groups: &[u16; GROUPS], which: Width, widths: &mut [u16], at: usize)
     requires { (Small groups.now) × (at + section_count ≤ length widths.old) }
     ensures { widths.new ≡ write widths.old at (each (width_in groups.now which) section_count) }
 {
     for s in 0..Section::COUNT {
-        widths[at + s] = width(groups, which, s as u16);
+        widths[at + s] = which.of(groups, s as u16);
     }
 }

@@ -1,4 +1,4 @@
-// The sections, in document 01's order of offsets.
+// The sections, in document 01's order of offsets. Numbers and no enum: the records that callers lend hold them as numbers, unknown ones too.
 #[derive(Drop)]
 pub struct Section;
 

@@ -1,4 +1,4 @@
-// A set of expression numbers as a bit array: eight words of bits, and a ninth with how many are set.
+// A set of expression numbers as a bit array: eight words of bits, and a ninth with how many are set. A plain array, since callers in C lend it.
 #![tactic(auto)]
 
 ghost use Rattle.std.specs.Prelude.{◌≡◌, ◌<◌, length};

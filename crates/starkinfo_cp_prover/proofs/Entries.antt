@@ -5,6 +5,9 @@ use mathlib.Core.Path.{◌≡◌, refl, sym, ◌∙◌, ap, subst}
 use mathlib.Core.Bool.{Bool, true, false}
 use mathlib.Core.List.{List, []}
 use lib.ListN.{length}
+use Rattle.std.specs.Prelude.{Result, Ok, Err}
+use Rattle.kinds.specs.Answers.{refusal_of, blame_of}
+use Rattle.kinds.specs.declared.refusal.Refused.{Refused}
 use Rattle.meaning.specs.Refusals.{Answer, done, refused, ◌then◌}
 use Rattle.meaning.proofs.Laws.Tests.{done-same, done-not-refused}
 use Rattle.frames.specs.Order.{expression_limit, Input}
@@ -23,19 +26,15 @@ use Rattle.constraint_pool.specs.Judging.{judged}
 use Rattle.constraint_frames.specs.Extension.{pool_with}
 use Rattle.constraint_frames.specs.Unique.{columns_of}
 use Rattle.constraint_choice.specs.Below.{refused_as}
-use Rattle.constraint_choice.specs.Choosing.{contexts, question_of, deciding, OrMalformed, Chooses, why_of, Left, Ready, choice_in, TellsRead, DecideIs}
-use Rattle.constraint_choice.specs.declared.answer.Found.{Found}
-use Rattle.constraint_choice.specs.declared.answer.Refused.{Refused}
-use Rattle.constraint_choice.specs.declared.answer.Refused.TheVariants as why
-use Rattle.constraint_choice.specs.declared.answer.Decided.{Decided}
-use Rattle.constraint_choice.specs.declared.answer.Decided.TheVariants as decided
+use Rattle.constraint_choice.specs.Choosing.{contexts, question_of, deciding, OrMalformed, Chooses, Decided, Left, Ready, choice_in, TellsRead, DecideIs}
+use Rattle.constraint_choice.specs.declared.answer.Chosen.{Chosen}
 use Rattle.constraint_build.specs.Both.{Lent, Both, listing}
 use Rattle.constraint_build.specs.Both as both
 use Rattle.constraint_build.specs.Making.{MakeAsks}
 use Rattle.constraint_build.specs.declared.answer.Made.{Made}
-use Rattle.starkinfo_cp_prover.specs.Polynomial.{Polynomial, generating, Answers, generated_says, GeneratedIs, Tells, generated_for, generated_of, set_after}
+use Rattle.starkinfo_cp_prover.specs.Polynomial.{Polynomial, generating, Answers, GeneratedIs, Tells}
 use Rattle.starkinfo_cp_prover.specs.declared.answer.Generated.{Generated}
-use Rattle.starkinfo_cp_prover.proofs.Lists.{make-asks, made_told}
+use Rattle.starkinfo_cp_prover.proofs.Lists.{make-asks, lists-refused, lists-made}
 
 -- ---- the answer of both by that of the choice
 
@@ -97,39 +96,22 @@ module _ (p : Pool) (a : Asked) (u v : Lent) (room : ℕ) where
 
 -- ---- what was decided
 
-says_why : (r : Refused) → generated_says (generated_for r) ≡ refused (why_of r).kind (why_of r).node
-says_why (why.Malformed b) = refl
-says_why (why.Limit b) = refl
-says_why why.BadContext = refl
-says_why (why.ChildCount i) = refl
-says_why (why.NotThere i) = refl
-says_why why.Lost = refl
-says_why (why.Cycle i) = refl
-says_why why.NoIdentity = refl
-says_why why.Bits = refl
-says_why why.BadKind = refl
-says_why why.OverLimit = refl
-says_why why.NoSet = refl
-says_why why.NoQuotient = refl
-says_why why.Full = refl
-says_why why.Counts = refl
-
 module _ {s : List ℕ} {a : Asked} (u v : Lent) {t : Left} {r : Decided} (d : DecideIs s a (contexts u.context (length u.list) v.context (length v.list)) t r) (out w : List ℕ) where
-  pub not_chosen : {e : Refused} → r ≡ decided.Refused e → {g : Generated} → g ≡ generated_for e → GeneratedIs s a u v out w u v out w g
-  not_chosen {e} h {g} q =
-      let z : d.answer ≡ refused (why_of e).kind (why_of e).node = subst (TellsRead s a d.answer t) h d.tells in
+  pub not_chosen : {e : Refused} → r ≡ Err e → GeneratedIs s a u v out w u v out w (Err e)
+  not_chosen {e} h =
+      let z : d.answer ≡ refused (refusal_of e.refusal) (blame_of e.node) = subst (TellsRead s a d.answer t) h d.tells in
       record {
-        answer = refused (why_of e).kind (why_of e).node;
+        answer = refused (refusal_of e.refusal) (blame_of e.node);
         runs = record {
           unread = λ k o i. refused_as (sym z ∙ d.unread k o i);
           judged = λ i read.
               subst (Answers (pool_of i) a u v (length out)) (ap (λ y. y then λ x. listed (pool_of i) a u v (length out) x) z) (answers (pool_of i) a u v (length out) d.answer (d.judged i read));
         };
-        tells = record { says = ap generated_says q ∙ says_why e; stands = (refl, refl, refl, refl) };
+        tells = record { says = refl; stands = (refl, refl, refl, refl) };
         back = d.back;
       }
 
-  module _ {f : Found} (h : r ≡ decided.Chosen f) where
+  module _ {f : Chosen} (h : r ≡ Ok f) where
     chosen : (i : Input) × (reading s ≡ done i) × Ready (pool_of i) a d.answer t f
     chosen = subst (TellsRead s a d.answer t) h d.tells
 
@@ -148,21 +130,27 @@ module _ {s : List ℕ} {a : Asked} (u v : Lent) {t : Left} {r : Decided} (d : D
     answer-is : (d.answer then λ x. listed p a u v (length out) x) ≡ A
     answer-is = ap (λ y. y then λ x. listed p a u v (length out) x) chosen.2.chose
 
-    pub all_told :
-        {ms : List ℕ} → ms ≡ members t.set → {u' v' : Lent} {out' : List ℕ} {y : Made} →
+    -- the answer, told
+    as-told : {u' v' : Lent} {out' w' : List ℕ} {g : Result Generated Refused} → Tells A u v out w u' v' out' w' g → GeneratedIs s a u v out w u' v' out' w' g
+    as-told told = record {
+      answer = A;
+      runs = record {
+        unread = λ k o z. absurd (done-not-refused (sym chosen.1 ∙ z));
+        judged = λ j z.
+            let k : p ≡ pool_of j = ap pool_of (done-same chosen.0 j (sym chosen.1 ∙ z)) in
+            subst (λ x. Answers x a u v (length out) A) k (subst (Answers p a u v (length out)) answer-is (answers p a u v (length out) d.answer (d.judged chosen.0 chosen.1)));
+      };
+      tells = told;
+      back = d.back;
+    }
+
+    module _
+        {ms : List ℕ} (e : ms ≡ members t.set) {u' v' : Lent} {out' : List ℕ} {y : Result Made Refused}
+        (m :
         both.Tells (tabled (Tabling t.nodes t.literals t.expressions f.nodes f.expressions))
-        (listing (tabled (Tabling t.nodes t.literals t.expressions f.nodes f.expressions)) (f.expressions - 1) ms u v (length out)) u v out u' v' out' y →
-        {w' : List ℕ} → w' ≡ set_after y t.set w → {g : Generated} → g ≡ generated_of y f.q f.visits → GeneratedIs s a u v out w u' v' out' w' g
-    all_told {ms} e {u'} {v'} {out'} {y} m {w'} i {g} q =
-        let told = made_told chosen.2 u v out w u' v' out' e m in
-        record {
-          answer = A;
-          runs = record {
-            unread = λ k o z. absurd (done-not-refused (sym chosen.1 ∙ z));
-            judged = λ j z.
-                let k : p ≡ pool_of j = ap pool_of (done-same chosen.0 j (sym chosen.1 ∙ z)) in
-                subst (λ x. Answers x a u v (length out) A) k (subst (Answers p a u v (length out)) answer-is (answers p a u v (length out) d.answer (d.judged chosen.0 chosen.1)));
-          };
-          tells = subst (λ (x : Generated). Tells A u v out w u' v' out' w' x) (sym q) (subst (λ (x : List ℕ). Tells A u v out w u' v' out' x (generated_of y f.q f.visits)) (sym i) told);
-          back = d.back;
-        }
+        (listing (tabled (Tabling t.nodes t.literals t.expressions f.nodes f.expressions)) (f.expressions - 1) ms u v (length out)) u v out u' v' out' y) where
+      pub not-listed : {o : Refused} → y ≡ Err o → GeneratedIs s a u v out w u' v' out' w (Err o)
+      not-listed z = as-told (lists-refused chosen.2 u v out w u' v' out' e m z)
+
+      pub all_told : {n : Made} → y ≡ Ok n → GeneratedIs s a u v out w u' v' out' t.set (Ok (record { q = f.q; visits = f.visits; sizes = n.sizes; bytes = n.bytes }))
+      all_told z = as-told (lists-made chosen.2 u v out w u' v' out' e m z)

@@ -7,6 +7,8 @@ use native.Mathlib.Omega.{arith}
 use lib.ListN.{length}
 use lib.Dec.{leb}
 use borrow.Author.Tests.{leb-true}
+use Rattle.std.specs.Prelude.{Result, Ok, Err}
+use Rattle.kinds.specs.declared.refusal.Refused.{Refused}
 use Rattle.kinds.specs.Kinds.{is_node_kind}
 use Rattle.meaning.specs.Refusals.{Answer, done, refused, ◌then◌}
 use Rattle.meaning.specs.Trees.{Acyclic}
@@ -31,14 +33,13 @@ use Rattle.constraint_frames.specs.Formed.{all-at}
 use Rattle.constraint_sessions.specs.Larger.{good-larger}
 use Rattle.constraint_choice.specs.Below.{refused_as}
 use Rattle.constraint_choice.specs.Choosing.{Left, Ready, choice_in, constrained_pool}
-use Rattle.constraint_choice.specs.declared.answer.Found.{Found}
-use Rattle.constraint_build.specs.Both.{Lent, Both, listing, made_says, Totals, totals_of}
+use Rattle.constraint_choice.specs.declared.answer.Chosen.{Chosen}
+use Rattle.constraint_build.specs.Both.{Lent, Both, listing, Totals, totals_of}
 use Rattle.constraint_build.specs.Both as both
 use Rattle.constraint_build.specs.Committing.{rest_of}
 use Rattle.constraint_build.specs.Making.{MakeAsks}
 use Rattle.constraint_build.specs.declared.answer.Made.{Made}
-use Rattle.constraint_build.specs.declared.answer.Made.TheVariants as made
-use Rattle.starkinfo_cp_prover.specs.Polynomial.{Polynomial, Keeps, Tells, generated_of, set_after}
+use Rattle.starkinfo_cp_prover.specs.Polynomial.{Polynomial, Tells}
 
 -- ---- rows of a well_formed_lem pool in tables
 
@@ -55,7 +56,7 @@ rows_fit w l x k m a i h =
 
 -- ---- with a set that was chosen
 
-module _ {p : Pool} {a : Asked} {z : Answer Choice} {t : Left} {f : Found} (r : Ready p a z t f) (u v : Lent) where
+module _ {p : Pool} {a : Asked} {z : Answer Choice} {t : Left} {f : Chosen} (r : Ready p a z t f) (u v : Lent) where
   abbrev Q : Pool
   Q = constrained_pool p a t f
 
@@ -87,7 +88,7 @@ module _ {p : Pool} {a : Asked} {z : Answer Choice} {t : Left} {f : Found} (r : 
 
     -- the same of the pool with the constraint, and of its members
     of-pool :
-        {ms : List ℕ} → ms ≡ members t.set → {u' v' : Lent} {out' : List ℕ} {y : Made} →
+        {ms : List ℕ} → ms ≡ members t.set → {u' v' : Lent} {out' : List ℕ} {y : Result Made Refused} →
         both.Tells T (listing T (f.expressions - 1) ms u v (length out)) u v out u' v' out' y → both.Tells Q L u v out u' v' out' y
     of-pool {ms} e {u'} {v'} {out'} {y} h =
         let i : f.expressions - 1 ≡ length p.expressions = omega (arith, r.count) in
@@ -99,25 +100,22 @@ module _ {p : Pool} {a : Asked} {z : Answer Choice} {t : Left} {f : Found} (r : 
       abbrev Y : Both → Polynomial
       Y b = record { choice = X; pool = Q; lists = b }
 
-      keeps : Keeps X.set t.set
-      keeps = record { good = r.good; is = refl }
+      -- the lists' refusal is the answer
+      refused-told : {e : Refused} (y : Answer Both) → both.Tells Q y u v out u' v' out' (Err e) → Tells (y then λ b. done (Y b)) u v out w u' v' out' w (Err e)
+      refused-told (done b) h = absurd (done-not-refused (sym h.says))
+      refused-told (refused i o) h = record { says = refused_as h.says; stands = (h.stands.0, h.stands.1, h.stands.2, refl) }
 
-      told :
-          (y : Answer Both) (m : Made) → made_says m ≡ (y then λ b. done (totals_of Q b)) → both.Stands Q y u v out u' v' out' →
-          Tells (y then λ b. done (Y b)) u v out w u' v' out' (set_after m t.set w) (generated_of m f.q f.visits)
-      told (done b) made.Lost e h = absurd (done-not-refused (sym e))
-      told (done b) (made.DoublePrime i) e h = absurd (done-not-refused (sym e))
-      told (done b) made.Full e h = absurd (done-not-refused (sym e))
-      told (done b) (made.Done n m) e h =
-          let s : record { sizes = n; bytes = m } ≡ totals_of Q b = done-same _ _ e in
-          record { says = ap (λ (y : Totals). done (record { q = f.q; visits = f.visits; totals = y })) s; stands = (h, keeps) }
-      told (refused i o) made.Lost e h = record { says = refused_as e; stands = (h.0, h.1, h.2, refl) }
-      told (refused i o) (made.DoublePrime n) e h = record { says = refused_as e; stands = (h.0, h.1, h.2, refl) }
-      told (refused i o) made.Full e h = record { says = refused_as e; stands = (h.0, h.1, h.2, refl) }
-      told (refused i o) (made.Done n m) e h = absurd (done-not-refused e)
+      made-told : {m : Made} (y : Answer Both) → both.Tells Q y u v out u' v' out' (Ok m) →
+          Tells (y then λ b. done (Y b)) u v out w u' v' out' t.set (Ok (record { q = f.q; visits = f.visits; sizes = m.sizes; bytes = m.bytes }))
+      made-told {m} (done b) h =
+          let s : record { sizes = m.sizes; bytes = m.bytes } ≡ totals_of Q b = done-same _ _ h.says in
+          record { says = ap (λ (y : Totals). done (record { q = f.q; visits = f.visits; totals = y })) s; stands = (h.stands, record { good = r.good; is = refl }) }
+      made-told (refused i o) h = absurd (done-not-refused h.says)
 
       -- what making the lists answers
-      pub made_told :
-          {ms : List ℕ} → ms ≡ members t.set → {y : Made} → both.Tells T (listing T (f.expressions - 1) ms u v (length out)) u v out u' v' out' y →
-          Tells (L then λ b. done (Y b)) u v out w u' v' out' (set_after y t.set w) (generated_of y f.q f.visits)
-      made_told e {y} h = let g = of-pool e h in told L y g.says g.stands
+      module _ {ms : List ℕ} (e : ms ≡ members t.set) {y : Result Made Refused} (h : both.Tells T (listing T (f.expressions - 1) ms u v (length out)) u v out u' v' out' y) where
+        pub lists-refused : {o : Refused} → y ≡ Err o → Tells (L then λ b. done (Y b)) u v out w u' v' out' w (Err o)
+        lists-refused z = refused-told L (subst (both.Tells Q L u v out u' v' out') z (of-pool e h))
+
+        pub lists-made : {m : Made} → y ≡ Ok m → Tells (L then λ b. done (Y b)) u v out w u' v' out' t.set (Ok (record { q = f.q; visits = f.visits; sizes = m.sizes; bytes = m.bytes }))
+        lists-made z = made-told L (subst (both.Tells Q L u v out u' v' out') z (of-pool e h))

@@ -2,13 +2,14 @@
 -- `meaning`, it is refused where the definition refuses, with its number, or where there is no room (9); else the definition makes it, and what stands in the lists and in
 -- the contexts after it is what it makes.
 -- Assumes nothing.
-use Rattle.std.specs.Prelude.{ℕ, ◌+◌, ◌≤◌, ◌≡◌, refl, Bool, true, false, cond, ◌⊎◌, List, [], length}
+use Rattle.std.specs.Prelude.{ℕ, ◌+◌, ◌≤◌, ◌≡◌, refl, Bool, true, false, cond, ◌⊎◌, List, [], length, Result}
 use Rattle.std.proofs.Common.{sym, ◌∙◌, ap, subst, inl, inr, arith}
 use Rattle.std.proofs.Math.Option.{Option, none}
 use Rattle.meaning.specs.Refusals.{Refusal, Answer, done, refused, ◌then◌}
 use Rattle.meaning.specs.Trees.{Forest}
 use Rattle.meaning.specs.Generation.{State}
 use Rattle.meaning.proofs.Laws.Tests.{then-done, done-same, done-not-refused}
+use Rattle.kinds.specs.declared.refusal.Refused.{Refused}
 use Rattle.frames.specs.Order.{expression_limit, Input}
 use Rattle.frames.specs.Reading.{reading}
 use Rattle.pool.specs.Pool.{Pool}
@@ -55,7 +56,7 @@ cond-full : {A : Type 0} (b : Bool) (x : A) {k : Refusal} {o : Option ℕ} → c
 cond-full true x e = absurd (done-not-refused e)
 cond-full false x e = refl
 
-module _ {s : List ℕ} {a : Asked} {u v : Lent} {out w : List ℕ} {u' v' : Lent} {out' w' : List ℕ} {r : Generated} (g : GeneratedIs s a u v out w u' v' out' w' r)
+module _ {s : List ℕ} {a : Asked} {u v : Lent} {out w : List ℕ} {u' v' : Lent} {out' w' : List ℕ} {r : Result Generated Refused} (g : GeneratedIs s a u v out w u' v' out' w' r)
     (i : Input) (read : reading s ≡ done i) (admitted : Verdict (pool_of i) [] (done tt))
     (good : Good u.context (length i.expressions) (length u.list)) (good_2ns : Good v.context (length i.expressions) (length v.list))
     (first second : State) (holds : Holds u.context u.list first) (holds-2ns : Holds v.context v.list second) where

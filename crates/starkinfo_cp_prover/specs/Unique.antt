@@ -1,9 +1,10 @@
 -- ONLY ONE OUTCOME FITS what is promised of the constraint polynomial: what is told, and everything lent after it.
 -- Assumes nothing.
-use Rattle.std.specs.Prelude.{ℕ, ◌≡◌, refl, Bool, true, false, List, [], length}
+use Rattle.std.specs.Prelude.{ℕ, ◌≡◌, refl, Bool, true, false, List, [], length, Result}
 use Rattle.std.proofs.Common.{sym, ◌∙◌, ap}
 use Rattle.meaning.specs.Refusals.{Answer, done, refused, ◌then◌}
 use Rattle.meaning.proofs.Laws.Tests.{true-false}
+use Rattle.kinds.specs.declared.refusal.Refused.{Refused}
 use Rattle.frames.specs.Order.{Input}
 use Rattle.frames.specs.Reading.{reading}
 use Rattle.pool.specs.Pool.{Pool}
@@ -52,7 +53,7 @@ one-run (refused k o) a u v room y z s t = s.unread k o refl ∙ sym (t.unread k
 
 -- WHAT IS TOLD is one, and what stands after it is said by one answer
 pub one-generated :
-    {s : List ℕ} {a : Asked} {u v : Lent} {out w : List ℕ} {u₁ v₁ u₂ v₂ : Lent} {o₁ w₁ o₂ w₂ : List ℕ} {r₁ r₂ : Generated} →
+    {s : List ℕ} {a : Asked} {u v : Lent} {out w : List ℕ} {u₁ v₁ u₂ v₂ : Lent} {o₁ w₁ o₂ w₂ : List ℕ} {r₁ r₂ : Result Generated Refused} →
     (g : GeneratedIs s a u v out w u₁ v₁ o₁ w₁ r₁) (h : GeneratedIs s a u v out w u₂ v₂ o₂ w₂ r₂) → (generated_says r₁ ≡ generated_says r₂) × (g.answer ≡ h.answer)
 one-generated {s} {a} {u} {v} {out} g h =
     let e : g.answer ≡ h.answer = one-run (reading s) a u v (length out) g.answer h.answer g.runs h.runs in

@@ -4,13 +4,14 @@ ghost use Rattle.constraint_build.specs.Both.{lent};
 ghost use Rattle.constraint_choice.specs.Choosing.{asked_by};
 ghost use Rattle.starkinfo_cp_prover.specs.Polynomial.{GeneratedIs};
 
-use crate::answer::{Generated, keep_set, refuse, tell};
+use crate::answer::Generated;
 use constraint_build::make::make_lists;
-use constraint_choice::answer::{Asking, Decided};
+use constraint_choice::answer::Asking;
 use constraint_choice::entry::decide;
 use constraint_frames::members::list_members;
 use frames::count::{EXPRESSION_LIMIT, NODE_LIMIT};
 use frames::tables::NODE_WORDS;
+use kinds::refusal::Refused;
 use sets::SET_WORDS;
 
 // Frames, each behind its length; requests among them are read and not served. `context` with its list is the caller's, for step3, and the other for step42ns; each has room
@@ -31,14 +32,14 @@ pub fn generate_constraint_polynomial(
     last_2ns: &mut [u8],
     out: &mut [u8],
     chosen: &mut [u64; SET_WORDS],
-) -> Generated
+) -> Result<Generated, Refused>
     ensures { GeneratedIs s.now (asked_by identities.now a) (lent context.old list.old (lists first.old i.old last.old)) (lent context_2ns.old list_2ns.old (lists first_2ns.old i_2ns.old last_2ns.old)) out.old chosen.old (lent context.new list.new (lists first.new i.new last.new)) (lent context_2ns.new list_2ns.new (lists first_2ns.new i_2ns.new last_2ns.new)) out.new chosen.new result }
 {
     let mut nodes = [0u64; NODE_WORDS];
     let mut literals = [0u64; NODE_LIMIT];
     let mut expressions = [0u64; EXPRESSION_LIMIT];
     let mut set = [0u64; SET_WORDS];
-    match decide(
+    let found = decide(
         s,
         identities,
         a,
@@ -50,32 +51,33 @@ pub fn generate_constraint_polynomial(
         &mut literals,
         &mut expressions,
         &mut set,
-    ) {
-        Decided::Refused(r) => refuse(r),
-        Decided::Chosen(f) => {
-            let mut members = [0u64; EXPRESSION_LIMIT];
-            let count = list_members(&set, &mut members);
-            let made = make_lists(
-                &nodes,
-                &literals,
-                &expressions,
-                &members[..count],
-                context,
-                list,
-                first,
-                i,
-                last,
-                context_2ns,
-                list_2ns,
-                first_2ns,
-                i_2ns,
-                last_2ns,
-                f.nodes,
-                f.expressions,
-                out,
-            );
-            keep_set(made, &set, chosen);
-            tell(made, f.q, f.visits)
-        }
-    }
+    )?;
+    let mut members = [0u64; EXPRESSION_LIMIT];
+    let count = list_members(&set, &mut members);
+    let made = make_lists(
+        &nodes,
+        &literals,
+        &expressions,
+        &members[..count],
+        context,
+        list,
+        first,
+        i,
+        last,
+        context_2ns,
+        list_2ns,
+        first_2ns,
+        i_2ns,
+        last_2ns,
+        found.nodes,
+        found.expressions,
+        out,
+    )?;
+    *chosen = set;
+    Ok(Generated {
+        q: found.q,
+        visits: found.visits,
+        sizes: made.sizes,
+        bytes: made.bytes,
+    })
 }

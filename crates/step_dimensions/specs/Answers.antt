@@ -1,30 +1,21 @@
--- WHAT THE ANSWERS SAY: each enum's cases as an answer of meaning, with document 01's number.
+-- WHAT THE ANSWERS SAY, as answers of meaning; and what is lent to the code.
 -- Assumes nothing: these are definitions.
-use Rattle.std.specs.Prelude.{ℕ, List}
-use Rattle.std.proofs.Math.Option.{none}
+use Rattle.std.specs.Prelude.{ℕ, List, Result}
+use Rattle.kinds.specs.Answers.{plain_answer_of}
+use Rattle.kinds.specs.declared.refusal.Refusal.{Refusal}
 use Rattle.kinds.specs.declared.step.Step.{Step}
-use Rattle.meaning.specs.Refusals.{Refusal, Answer, done, refused}
+use Rattle.meaning.specs.Refusals.{Answer}
 use Rattle.step_dimensions.specs.StepDimensions.{Given}
-use Rattle.step_dimensions.specs.declared.source.Why.{Why}
-use Rattle.step_dimensions.specs.declared.source.Why.TheVariants as why
-use Rattle.step_dimensions.specs.declared.source.Sourced.{Sourced}
-use Rattle.step_dimensions.specs.declared.source.Sourced.TheVariants as sourced
-use Rattle.step_dimensions.specs.declared.step.Stepped.{Stepped}
-use Rattle.step_dimensions.specs.declared.step.Stepped.TheVariants as stepped
+use Rattle.step_dimensions.specs.declared.lent.Lent.{Lent}
 
--- what is lent to the code
 abbrev pub lent : List ℕ → List ℕ → List ℕ → ℕ → Given
 lent dims cm q x = record { record_dims = dims; cm2ns = cm; qs = q; dim_x = x }
 
-abbrev pub why_says : Why → Refusal
-why_says why.NotThere = Refusal.not_there
-why_says why.NoRule = Refusal.no_rule
-why_says why.NoDimension = Refusal.no_dimension
+abbrev pub given : Lent → Given
+given l = lent l.record_dims.now l.cm_2ns.now l.qs.now l.dim_x
 
-abbrev pub sourced_says : Sourced → Answer ℕ
-sourced_says (sourced.Dim d) = done d
-sourced_says (sourced.Refused w) = refused (why_says w) none
+abbrev pub sourced_says : Result ℕ Refusal → Answer ℕ
+sourced_says r = plain_answer_of r
 
-abbrev pub stepped_says : Stepped → Answer Step
-stepped_says (stepped.Sized s) = done s
-stepped_says (stepped.Refused w) = refused (why_says w) none
+abbrev pub stepped_says : Result Step Refusal → Answer Step
+stepped_says r = plain_answer_of r

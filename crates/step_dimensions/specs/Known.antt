@@ -1,6 +1,6 @@
 -- THE DIMENSIONS OF A STEP'S SOURCES as they are read from its record in a list of bytes: 0 for one that is refused.
 -- Assumes nothing: these are definitions.
-use Rattle.std.specs.Prelude.{ℕ, zero, suc, max, ◌+◌, ◌*◌, ◌<◌, ◌≡◌, cond, List, set, eqb}
+use Rattle.std.specs.Prelude.{ℕ, zero, suc, max, ◌+◌, ◌*◌, ◌<◌, ◌≡◌, cond, List, set, eqb, Option, Some, None}
 use Rattle.kinds.specs.KindBytes as kind
 use Rattle.kinds.specs.Write.{write}
 use Rattle.kinds.specs.BigEndian.{u16_bytes}
@@ -14,6 +14,11 @@ use Rattle.step_dimensions.specs.StepDimensions.{Given, source_dim, sized, step_
 abbrev pub dim_of : Answer ℕ → ℕ
 dim_of (done d) = d
 dim_of (refused r n) = 0
+
+-- a source's, where it is not refused
+abbrev pub known : Answer ℕ → Option ℕ
+known (done d) = Some d
+known (refused r n) = None
 
 -- where the dimension of a destination is noted
 abbrev pub noted_at : List ℕ → Reference → ℕ → List ℕ
@@ -35,11 +40,11 @@ module _ (g : Given) (ts : List ℕ) where
 
     -- each of the first n has one
     unfoldable pub AllKnown : ℕ → Type 0
-    AllKnown n = (k : ℕ) → k < n → known_at k ≡ 0 → ⊥
+    AllKnown n = (k : ℕ) → k < n → source_dim g ts (ref_at l (at + 16 + 12 * k)) ≡ done (known_at k)
 
-    -- a number that is not 0 is the largest of sources that all have one
-    abbrev pub MostIs : ℕ → ℕ → Type 0
-    MostIs n r = (r ≡ 0 → ⊥) → AllKnown n × (r ≡ most_of n)
+    -- the largest of sources that all have one
+    abbrev pub MostIs : ℕ → Option ℕ → Type 0
+    MostIs n r = (d : ℕ) → r ≡ Some d → AllKnown n × (d ≡ most_of n)
 
     -- the record with the dimensions of the first n written
     unfoldable pub put_dims : ℕ → List ℕ
@@ -57,9 +62,9 @@ module _ (g : Given) (ts : List ℕ) where
     pub is : step_with g ts s ≡ done step
     pub dest : step.dest ≡ sized s.dest d
 
-  -- a number that is not 0 is the destination's dimension
-  abbrev pub StepDimIs : Step → ℕ → Type 0
-  StepDimIs s d = (d ≡ 0 → ⊥) → Sizes s d
+  -- the destination's dimension
+  abbrev pub StepDimIs : Step → Option ℕ → Type 0
+  StepDimIs s r = (d : ℕ) → r ≡ Some d → Sizes s d
 
   -- where the record at this place has its dimensions, it is written with them, and its destination noted
   pub record DimsWritten (l l' ts' : List ℕ) (at : ℕ) (s : Step) : Type 0 where

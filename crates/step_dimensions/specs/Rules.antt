@@ -1,8 +1,10 @@
 -- HOW A SOURCE OF A KIND GETS ITS DIMENSION, and which kinds a step may write.
 -- Assumes nothing: these are definitions.
-use Rattle.std.specs.Prelude.{ℕ, Bool, cond, ◌||◌, eqb}
+use Rattle.std.specs.Prelude.{ℕ, Bool, cond, ◌||◌, eqb, Option, Some, None}
 use Rattle.kinds.specs.Range.{within}
 use Rattle.kinds.specs.KindBytes as kind
+use Rattle.step_dimensions.specs.declared.rule.Rule.{Rule}
+use Rattle.step_dimensions.specs.declared.rule.Rule.TheVariants as of
 
 -- ---- the rules, by number
 abbrev pub none : ℕ
@@ -33,6 +35,17 @@ three = 6
 -- the pass's own
 abbrev pub x : ℕ
 x = 7
+
+-- that of a kind that has one
+abbrev pub rule_number : Option Rule → ℕ
+rule_number None = none
+rule_number (Some of.Temporary) = temporary
+rule_number (Some of.Own) = own
+rule_number (Some of.Column) = column
+rule_number (Some of.Quotient) = quotient
+rule_number (Some of.One) = one
+rule_number (Some of.Three) = three
+rule_number (Some of.X) = x
 
 -- exp, f and a byte that is no kind have no rule
 unfoldable pub rule_no : ℕ → ℕ

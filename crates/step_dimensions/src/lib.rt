@@ -2,6 +2,7 @@
 #![tactic(auto)]
 
 pub mod known;
+pub mod lent;
 pub mod rule;
 pub mod source;
 pub mod step;

@@ -13,8 +13,7 @@ use Rattle.output.specs.Output.{counter_line, refusal_line}
 use Rattle.output.specs.Records.{record_line, PutsLine}
 use Rattle.output.specs.Laws.{record-fits, counter-fits, refusal-fits}
 use Rattle.frames.specs.Tables.{Tables}
-use Rattle.requests.specs.Runs.{outcome_says}
-use Rattle.requests.specs.declared.run.Outcome.{Outcome}
+use Rattle.requests.specs.Runs.{Outcome, outcome_says}
 use Rattle.transcript.specs.Concluding.{Concluded}
 use Rattle.transcript.specs.Lines.{shown_of, line_no, LineAsked}
 use Rattle.transcript.specs.Transcript.{line-asked}

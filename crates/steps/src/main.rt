@@ -9,10 +9,9 @@ ghost use Rattle.transcript.specs.Lines.{LineAsked};
 
 use console::page::{PAGE_SIZE, flush, put};
 use console::read::read_all;
-use feed::feed::{Feeding, LINE_ROOM, Place};
+use feed::feed::{LINE_ROOM, Place};
 use frames::count::{EXPRESSION_LIMIT, NODE_LIMIT, REQUEST_LIMIT};
 use frames::tables::NODE_WORDS;
-use kinds::refusal::{FULL, MALFORMED};
 use kinds::step::STEP_SIZE;
 use output::line::{LINE_SIZE, refusal_line};
 use transcript::conclude::conclude;
@@ -33,11 +32,9 @@ fn print_lines(
     let mut page = [0u8; PAGE_SIZE];
     let mut line = [0u8; LINE_SIZE];
     let mut used: usize = 0;
-    let mut k: usize = 0;
-    while k <= s.steps {
+    for k in 0..s.steps + 1 {
         let n = output_line(nodes, literals, list, s, k, &mut line);
         used = put(rt, &mut page, used, &line, n);
-        k += 1;
     }
     flush(rt, &page, used);
 }
@@ -80,9 +77,8 @@ fn main(rt: HostRuntime) {
         &mut expressions,
         &mut requests,
     ) {
-        Feeding::Malformed(_) => print_refusal(&rt, MALFORMED),
-        Feeding::Full(_) => print_refusal(&rt, FULL),
-        Feeding::Fed(p) => answer(
+        Err(f) => print_refusal(&rt, f.refusal.into()),
+        Ok(p) => answer(
             &rt,
             p,
             &line,

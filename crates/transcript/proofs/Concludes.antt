@@ -9,25 +9,21 @@ use Rattle.meaning.specs.Refusals.{Refusal, Answer, done, refused, ◌then◌}
 use Rattle.meaning.specs.Trees.{Each}
 use Rattle.meaning.specs.Building.{Segment}
 use Rattle.meaning.proofs.Laws.Tests.{done-not-refused}
+use Rattle.std.specs.Prelude.{Result, Ok, Err}
+use Rattle.kinds.specs.declared.refusal.Refused.{Refused}
 use Rattle.frames.specs.Tables.{Tables, input_in}
 use Rattle.frames.specs.Reading.{held}
 use Rattle.frames.specs.Text.{reading_text}
 use Rattle.frames.specs.declared.count.Counts.{Counts}
-use Rattle.frames.specs.declared.count.Blame.{Blame}
-use Rattle.frames.specs.declared.count.Reading.{Reading}
-use Rattle.frames.specs.declared.count.Reading.TheVariants as was
 use Rattle.pool.specs.Pool.{Pool}
 use Rattle.pool.specs.Tabled.{tabled}
 use Rattle.pool.specs.Numbered as numbered
 use Rattle.starkinfo_codegen.specs.Encoding.{records}
 use Rattle.starkinfo_codegen.specs.Emitting.{Rest, pool_of}
 use Rattle.requests.specs.Whole.{Answers, totals, WholeGiven}
-use Rattle.requests.specs.Runs.{requests_of, Runs, outcome_says, RunIs}
-use Rattle.requests.specs.Reads.{ReadInto, whole-asked, malformed-run, limit-run, ran-run}
+use Rattle.requests.specs.Runs.{requests_of, Runs, Outcome, outcome_says, RunIs}
+use Rattle.requests.specs.Reads.{ReadInto, whole-asked, refused-run, ran-run}
 use Rattle.requests.specs.Serving.{accepted}
-use Rattle.requests.specs.declared.whole.Whole.{Whole}
-use Rattle.requests.specs.declared.run.Outcome.{Outcome}
-use Rattle.requests.specs.declared.run.Outcome.TheVariants as outcome
 use Rattle.output.specs.Output.{list_lines}
 use Rattle.output.specs.Records.{record_lines}
 use Rattle.output.specs.Shown.{StepSays, list-shown}
@@ -38,14 +34,11 @@ use Rattle.transcript.specs.Concluding.{Concluded}
 unsaid : (t : List ℕ) {l l' : List ℕ} {r : Outcome} (h : RunIs (reading_text t) l l' r) {k : Refusal} {o : Option ℕ} → outcome_says r ≡ refused k o → (s : Segment) → h.answer ≡ done s → ⊥
 unsaid t h q s e = done-not-refused (sym (h.says ∙ ap (λ (z : Answer Segment). z then λ y. done (totals y)) e) ∙ q)
 
-module _ (t : List ℕ) {u : Tables} {r : Reading} (a : ReadInto u r (reading_text t)) where
-  pub malformed : {b : Blame} → r ≡ was.Malformed b → (l : List ℕ) → Concluded t l l (outcome.Malformed b) u
-  malformed q l = record { run = malformed-run a q l; lines = λ s e. absurd (unsaid t (malformed-run a q l) refl s e) }
+module _ (t : List ℕ) {u : Tables} {r : Result Counts Refused} (a : ReadInto u r (reading_text t)) where
+  pub unread : {f : Refused} → r ≡ Err f → (l : List ℕ) → Concluded t l l (Err f) u
+  unread q l = record { run = refused-run a q l; lines = λ s e. absurd (unsaid t (refused-run a q l) refl s e) }
 
-  pub limit : {b : Blame} → r ≡ was.Full b → (l : List ℕ) → Concluded t l l (outcome.Limit b) u
-  limit q l = record { run = limit-run a q l; lines = λ s e. absurd (unsaid t (limit-run a q l) refl s e) }
-
-  module _ {c : Counts} (q : r ≡ was.Read c) where
+  module _ {c : Counts} (q : r ≡ Ok c) where
     abbrev rest : Rest
     rest = record { literals = u.literals; expressions = u.expressions; node_count = c.nodes; expression_count = c.expressions }
 
@@ -60,5 +53,5 @@ module _ (t : List ℕ) {u : Tables} {r : Reading} (a : ReadInto u r (reading_te
         list-shown u.nodes rest (whole-asked a q).nodes s.first
         (subst (λ (p : Pool). Each (StepSays p) s.first) same-pool (whole_says (numbered.pool_of i) k.shaped 2 (requests_of i) s k.run))
 
-    pub ran : (l l' : List ℕ) (g : Whole) → WholeGiven u.nodes u.expressions u.requests l l' c g → Concluded t l l' (outcome.Ran g) u
+    pub ran : (l l' : List ℕ) (g : Outcome) → WholeGiven u.nodes u.expressions u.requests l l' c g → Concluded t l l' g u
     ran l l' g h = let k = ran-run a q l l' g h in record { run = k; lines = shown (length l) k.answer k.runs }

@@ -8,8 +8,7 @@ use Rattle.frames.specs.Text.{reading_text}
 use Rattle.feed.specs.Feeding.{Fed}
 use Rattle.feed.specs.declared.feed.Place.{Place}
 use Rattle.starkinfo_codegen.specs.Encoding.{records}
-use Rattle.requests.specs.Runs.{RunIs}
-use Rattle.requests.specs.declared.run.Outcome.{Outcome}
+use Rattle.requests.specs.Runs.{Outcome, RunIs}
 use Rattle.output.specs.Output.{list_lines}
 use Rattle.output.specs.Records.{record_lines}
 

@@ -3,7 +3,7 @@
 use Rattle.std.specs.Prelude.{ℕ, zero, suc, ◌+◌, ◌*◌, ◌<◌, ◌≤◌, cond, List, [], ◌++◌, eqb, ltb}
 use Rattle.meaning.specs.Refusals.{Answer, done, refused, number}
 use Rattle.kinds.specs.Steps.{step_size, step_at}
-use Rattle.requests.specs.Whole.{Totals}
+use Rattle.requests.specs.declared.whole.Totals.{Totals}
 use Rattle.output.specs.Output.{counter_line, refusal_line}
 use Rattle.output.specs.Records.{record_line}
 use Rattle.transcript.specs.declared.lines.Shown.{Shown}

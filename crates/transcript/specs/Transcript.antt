@@ -18,9 +18,8 @@ use Rattle.frames.specs.Text.{reading_text}
 use Rattle.pool.specs.Numbered.{pool_of}
 use Rattle.starkinfo_codegen.specs.Encoding.{records, records-length, encoded}
 use Rattle.requests.specs.Whole.{totals, list_after}
-use Rattle.requests.specs.Runs.{requests_of, Runs, outcome_says}
+use Rattle.requests.specs.Runs.{requests_of, Runs, Outcome, outcome_says}
 use Rattle.requests.specs.Serving.{Accepted, accepted}
-use Rattle.requests.specs.declared.run.Outcome.{Outcome}
 use Rattle.output.specs.Output.{counter_line, refusal_line, printed}
 use Rattle.output.specs.Records.{record_line, record_lines}
 use Rattle.output.specs.Laws.{record-lines-append, record-lines-one}

@@ -4,10 +4,10 @@ ghost use Rattle.feed.specs.Feeding.{FedAsked};
 ghost use Rattle.transcript.specs.Concluding.{ConcludeGiven};
 
 use feed::feed::{Place, finish};
-use frames::count::{EXPRESSION_LIMIT, NODE_LIMIT, REQUEST_LIMIT, Reading};
+use frames::count::{EXPRESSION_LIMIT, NODE_LIMIT, REQUEST_LIMIT};
 use frames::tables::NODE_WORDS;
-use requests::run::Outcome;
-use requests::whole::whole_run;
+use kinds::refusal::Refused;
+use requests::whole::{Totals, whole_run};
 
 // Where the text is refused, the list has not changed.
 pub fn conclude(
@@ -18,13 +18,10 @@ pub fn conclude(
     expressions: &mut [u64; EXPRESSION_LIMIT],
     requests: &mut [u64; REQUEST_LIMIT],
     list: &mut [u8],
-) -> Outcome
+) -> Result<Totals, Refused>
     requires { FedAsked line.now p (tables nodes.old literals.old expressions.old requests.old) }
     ensures { ConcludeGiven line.now p (tables nodes.old literals.old expressions.old requests.old) list.old list.new result (tables nodes.new literals.new expressions.new requests.new) }
 {
-    match finish(p, line, nodes, literals, expressions, requests) {
-        Reading::Malformed(b) => Outcome::Malformed(b),
-        Reading::Full(b) => Outcome::Limit(b),
-        Reading::Read(c) => Outcome::Ran(whole_run(nodes, expressions, requests, list, c)),
-    }
+    let c = finish(p, line, nodes, literals, expressions, requests)?;
+    whole_run(nodes, expressions, requests, list, c)
 }

@@ -1,19 +1,17 @@
 // The lines of an answer: a line for each step and the counter's, or a refusal's alone.
 ghost use Rattle.std.specs.Prelude.{◌≡◌, length};
-ghost use Rattle.requests.specs.Whole.{whole_says};
 ghost use Rattle.requests.specs.Runs.{outcome_says};
 ghost use Rattle.output.specs.Records.{PutsLine};
 ghost use Rattle.transcript.specs.Lines.{refused_with, shown_of, line_no, LineAsked};
 
 use frames::count::NODE_LIMIT;
 use frames::tables::NODE_WORDS;
-use kinds::refusal::{CHILD_COUNT, CYCLE, DOUBLE_PRIME, FULL, MALFORMED, NONE, NOT_THERE};
+use kinds::refusal::{NONE, Refused};
 use kinds::step::nth_step;
 use output::line::{LINE_SIZE, counter_line, refusal_line, step_line};
-use requests::run::Outcome;
-use requests::whole::Whole;
+use requests::whole::Totals;
 
-// A refusal's number, or none, and then how many steps and temporaries there are.
+// A refusal's number, or 0 and then how many steps and temporaries there are.
 #[derive(Clone, Copy)]
 pub struct Shown {
     pub refusal: u8,
@@ -31,31 +29,16 @@ fn refused(number: u8) -> Shown
     }
 }
 
-fn shown_whole(w: Whole) -> Shown
-    ensures { result ≡ shown_of (whole_says w) }
-{
-    match w {
-        Whole::ChildCount(_) => refused(CHILD_COUNT),
-        Whole::NotThere(_) => refused(NOT_THERE),
-        Whole::Lost => refused(NOT_THERE),
-        Whole::Cycle(_) => refused(CYCLE),
-        Whole::DoublePrime(_) => refused(DOUBLE_PRIME),
-        Whole::Full => refused(FULL),
-        Whole::Built { steps, counter } => Shown {
-            refusal: NONE,
-            steps: steps,
-            counter: counter,
-        },
-    }
-}
-
-pub fn shown_outcome(r: Outcome) -> Shown
+pub fn shown_outcome(r: Result<Totals, Refused>) -> Shown
     ensures { result ≡ shown_of (outcome_says r) }
 {
     match r {
-        Outcome::Malformed(_) => refused(MALFORMED),
-        Outcome::Limit(_) => refused(FULL),
-        Outcome::Ran(w) => shown_whole(w),
+        Ok(t) => Shown {
+            refusal: NONE,
+            steps: t.steps,
+            counter: t.counter,
+        },
+        Err(f) => refused(f.refusal.into()),
     }
 }
 

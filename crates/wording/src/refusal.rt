@@ -3,51 +3,58 @@ ghost use Rattle.std.specs.Prelude.{◌≤◌, length};
 ghost use Rattle.wording.specs.Pages.{Puts};
 
 use crate::text::{put_decimal, put_text};
-use frames::count::Blame;
-use kinds::refusal::{CHILD_COUNT, CYCLE, DOUBLE_PRIME, MALFORMED, NOT_THERE};
+use kinds::refusal::Refusal;
 
-// Of a whole run's refusals; the last is that something is too large.
+// Of a whole run's refusals; the last is that something is too large. A number and not a Refusal: what prints it vouches for nothing.
 fn put_meaning(page: &mut [u8], used: usize, number: u8) -> usize
     requires { used ≤ length page.old }
     ensures { Puts used result (length page.new) }
 {
-    match number {
-        MALFORMED => put_text(
+    if number == u8::from(Refusal::Malformed) {
+        return put_text(
             page,
             used,
             b"malformed line or frame: text that is no frame, an unknown kind, frames out of order, a prime, muladd or next byte that is not 0 or 1, expression flags above 7, an unused id that is not 0, minus zero, or a literal out of range",
-        ),
-        CHILD_COUNT => put_text(
+        );
+    }
+    if number == u8::from(Refusal::ChildCount) {
+        return put_text(
             page,
             used,
             b"a child count differs from that of the node's kind",
-        ),
-        NOT_THERE => put_text(
+        );
+    }
+    if number == u8::from(Refusal::NotThere) {
+        return put_text(
             page,
             used,
             b"a child is not earlier than its parent, a node is used twice, or a root or an expression number is not there",
-        ),
-        CYCLE => put_text(page, used, b"exp leaves form a cycle"),
-        DOUBLE_PRIME => put_text(
+        );
+    }
+    if number == u8::from(Refusal::Cycle) {
+        return put_text(page, used, b"exp leaves form a cycle");
+    }
+    if number == u8::from(Refusal::DoublePrime) {
+        return put_text(
             page,
             used,
             b"a primed evaluation reaches a cm, const, exp or q leaf with next",
-        ),
-        _ => put_text(
-            page,
-            used,
-            b"there are more than 4,096 nodes, 512 expressions or 1,024 requests, or the list does not fit",
-        ),
+        );
     }
+    put_text(
+        page,
+        used,
+        b"there are more than 4,096 nodes, 512 expressions or 1,024 requests, or the list does not fit",
+    )
 }
 
-fn put_blame(page: &mut [u8], used: usize, blame: Blame) -> usize
+fn put_blame(page: &mut [u8], used: usize, blame: Option<usize>) -> usize
     requires { used ≤ length page.old }
     ensures { Puts used result (length page.new) }
 {
     match blame {
-        Blame::Nothing => used,
-        Blame::Node(n) => {
+        None => used,
+        Some(n) => {
             let open = put_text(page, used, b" (node ");
             let node = put_decimal(page, open, n as u64);
             put_text(page, node, b")")
@@ -55,7 +62,7 @@ fn put_blame(page: &mut [u8], used: usize, blame: Blame) -> usize
     }
 }
 
-pub fn put_refusal(page: &mut [u8], used: usize, number: u8, blame: Blame) -> usize
+pub fn put_refusal(page: &mut [u8], used: usize, number: u8, blame: Option<usize>) -> usize
     requires { used ≤ length page.old }
     ensures { Puts used result (length page.new) }
 {

@@ -1,6 +1,6 @@
 -- A pass over a list, one record more: the definition at a front of the list, and what the code holds there.
 -- Assumes nothing.
-use Rattle.std.specs.Prelude.{ℕ, zero, suc, ◌+◌, ◌*◌, ◌≤◌, ◌<◌, ◌≡◌, ◌⊎◌, length}
+use Rattle.std.specs.Prelude.{ℕ, zero, suc, ◌+◌, ◌*◌, ◌≤◌, ◌<◌, ◌≡◌, ◌⊎◌, length, Some, Result, Ok, Err}
 use Rattle.std.proofs.Math.Path.{refl}
 use Rattle.std.proofs.Common.{sym, ◌∙◌, ap, inl, inr, eq-or-lt_of_le, add-one, arith, length-append}
 use Rattle.std.proofs.Math.Option.{Option, none}
@@ -13,13 +13,11 @@ use Rattle.lists.specs.Records.{record_count, records_in}
 use Rattle.lists.specs.Laws.{record_in}
 use Rattle.step_dimensions.specs.StepDimensions.{Given, step_with, noted}
 use Rattle.dimensions.specs.Dimensions.{Passed, passed}
-use Rattle.step_dimensions.specs.Answers.{why_says}
+use Rattle.kinds.specs.Answers as code
+use Rattle.kinds.specs.declared.refusal.Refusal as codes
 use Rattle.step_dimensions.specs.Known.{noted_at, StepDimIs, WritesDims}
 use Rattle.step_dimensions.specs.Laws.Known.{noted-at}
 use Rattle.dimensions.specs.Answers.{decided_says, step_to, list_to, StepWritten, WritesStep, ListWritten, WritesFront, WritesList}
-use Rattle.step_dimensions.specs.declared.source.Why.{Why}
-use Rattle.dimensions.specs.declared.pass.Decided.{Decided}
-use Rattle.dimensions.specs.declared.pass.Decided.TheVariants as decided
 
 never : {A B : Type 0} {r : Refusal} {n : Option ℕ} {a : A} → ◌≡◌ {A = Answer A} (refused r n) (done a) → B
 never e = absurd (let z : ◌≡◌ {A = ℕ} 0 1 = cc in omega arith)
@@ -73,9 +71,9 @@ step-refused g ts s w e = rw (← e)
 pub step-decided : (g : Given) (ts : List ℕ) (s y : Step) (ts' : List ℕ) → done y ≡ step_with g ts s → ts' ≡ noted ts y → done ts' ≡ step_to g ts s
 step-decided g ts s y ts' e f = rw (← e, f)
 
-pub step-known : (g : Given) (ts : List ℕ) (s : Step) (d : ℕ) (ts' : List ℕ) → StepDimIs g ts s d → (d ≡ 0 → ⊥) → ts' ≡ noted_at ts s.dest d → done ts' ≡ step_to g ts s
-step-known g ts s d ts' h n e =
-    let z = h n in
+pub step-known : (g : Given) (ts : List ℕ) (s : Step) (d : ℕ) (ts' : List ℕ) → StepDimIs g ts s (Some d) → ts' ≡ noted_at ts s.dest d → done ts' ≡ step_to g ts s
+step-known g ts s d ts' h e =
+    let z = h d refl in
     step-decided g ts s z.step ts' (sym z.is) (e ∙ noted-at ts s.dest d z.step z.dest)
 
 to-more : (g : Given) (ts l : List ℕ) (k : ℕ) → list_to g ts (steps_of l (suc k)) ≡ (list_to g ts (steps_of l k) then λ t. step_to g t (step_at l (step_size * k)))
@@ -103,7 +101,7 @@ module _ (g : Given) (ts l : List ℕ) (k : ℕ) (ts₁ : List ℕ) (so : list_t
   at_next : list_to g ts (steps_of l (suc k)) ≡ step_to g ts₁ x
   at_next = to-more g ts l k ∙ rw (so, ← e)
 
-  pub decide-next : (r : Decided) (ts₂ : List ℕ) → decided_says r ts₂ ≡ step_to g ts₁ x → r ≡ decided.Done → list_to g ts (steps_of l (k + 1)) ≡ done ts₂
+  pub decide-next : (r : Result Unit codes.Refusal) (ts₂ : List ℕ) → decided_says r ts₂ ≡ step_to g ts₁ x → r ≡ Ok tt → list_to g ts (steps_of l (k + 1)) ≡ done ts₂
   decide-next r ts₂ f q = rw (add-one k) (at_next ∙ sym f ∙ rw q)
 
   stops : (w : Refusal) → refused w none ≡ step_to g ts₁ x → k < record_count l → refused w none ≡ list_to g ts (records_in l)
@@ -117,8 +115,8 @@ module _ (g : Given) (ts l : List ℕ) (k : ℕ) (ts₁ : List ℕ) (so : list_t
           by (inl z) ih = rw (← z) (at_next ∙ sym f)
           by (inr z) ih = to-more g ts l n ∙ rw (ih z)
 
-  pub decide-stop : (r : Decided) (ts₂ : List ℕ) → decided_says r ts₂ ≡ step_to g ts₁ x → (w : Why) → r ≡ decided.Refused w → k < record_count l → refused (why_says w) none ≡ list_to g ts (records_in l)
-  decide-stop r ts₂ f w q h = stops (why_says w) (sym (rw q) ∙ f) h
+  pub decide-stop : (r : Result Unit codes.Refusal) (ts₂ : List ℕ) → decided_says r ts₂ ≡ step_to g ts₁ x → (w : codes.Refusal) → r ≡ Err w → k < record_count l → refused (code.refusal_of w) none ≡ list_to g ts (records_in l)
+  decide-stop r ts₂ f w q h = stops (code.refusal_of w) (sym (rw q) ∙ f) h
 
 pub decide-end : (g : Given) (ts l : List ℕ) (k : ℕ) (ts₁ : List ℕ) → list_to g ts (steps_of l k) ≡ done ts₁ → k ≤ record_count l → record_count l ≤ k → done ts₁ ≡ list_to g ts (records_in l)
 decide-end g ts l k ts₁ e h q =

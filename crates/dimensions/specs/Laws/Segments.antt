@@ -1,6 +1,6 @@
 -- The lists of a segment, one list more; and each answer of the entry points.
 -- Assumes nothing.
-use Rattle.std.specs.Prelude.{ℕ, ◌+◌, ◌*◌, ◌%◌, Bool, true, false, ◌&&◌, List, [], ◌∷◌, length, eqb}
+use Rattle.std.specs.Prelude.{ℕ, ◌+◌, ◌*◌, ◌%◌, Bool, true, false, ◌&&◌, List, [], ◌∷◌, length, eqb, Result, Ok, Err}
 use Rattle.std.proofs.Math.Path.{◌≡◌, refl, sym, ap}
 use Rattle.std.proofs.Common.{◌∙◌, append-nil, div-add-mod', arith, drop_of_length-le, eqb-true}
 use Rattle.std.proofs.Math.Option.{none, some}
@@ -10,22 +10,19 @@ use Rattle.meaning.specs.Refusals.{number, Answer, done, refused, ◌then◌}
 use Rattle.lists.specs.Records.{record_count, records_in, good_records, good_list}
 use Rattle.step_dimensions.specs.StepDimensions.{Given, unwritten}
 use Rattle.dimensions.specs.Dimensions.{Passed, passed, passed_lists, good_lists, dimensions}
-use Rattle.step_dimensions.specs.Answers.{why_says}
+use Rattle.kinds.specs.Answers as code
+use Rattle.kinds.specs.declared.refusal.Refusal as codes
+use Rattle.kinds.specs.declared.refusal.Refusal.TheVariants as code_of
 use Rattle.dimensions.specs.Answers.{decided_says, list_to, ListWritten, WritesList, refusal_of, decided_refusal, WritesLists, dimensioned_no, DimensionedIs}
 use Rattle.dimensions.specs.Laws.Passes.{passed_length}
-use Rattle.step_dimensions.specs.declared.source.Why.{Why}
-use Rattle.dimensions.specs.declared.pass.Decided.{Decided}
-use Rattle.dimensions.specs.declared.pass.Decided.TheVariants as decided
-use Rattle.dimensions.specs.declared.set_code_dimensions.Dimensioned.{Dimensioned}
-use Rattle.dimensions.specs.declared.set_code_dimensions.Dimensioned.TheVariants as dimensioned
 
 -- ---- deciding
 
-module _ (g : Given) (ts l : List ℕ) (ls : List (List ℕ)) (r : Decided) (ts' : List ℕ) (e : decided_says r ts' ≡ list_to g ts (records_in l)) where
+module _ (g : Given) (ts l : List ℕ) (ls : List (List ℕ)) (r : Result Unit codes.Refusal) (ts' : List ℕ) (e : decided_says r ts' ≡ list_to g ts (records_in l)) where
   after : (P : Answer Passed) → Answer (List (List ℕ))
   after P = P then λ p. passed_lists g p.temporaries ls then λ ls'. done (steps_bytes p.records ∷ ls')
 
-  pub lists-next : r ≡ decided.Done → refusal_of (passed_lists g ts' ls) ≡ refusal_of (passed_lists g ts (l ∷ ls))
+  pub lists-next : r ≡ Ok tt → refusal_of (passed_lists g ts' ls) ≡ refusal_of (passed_lists g ts (l ∷ ls))
   unfolding passed_lists after
   lists-next q = by (passed g ts (records_in l)) (sym (rw q) ∙ e)
     where
@@ -39,22 +36,22 @@ module _ (g : Given) (ts l : List ℕ) (ls : List (List ℕ)) (r : Decided) (ts'
           rw y (ends p (passed_lists g p.temporaries ls))
       by (refused w n) z = absurd (let y : ◌≡◌ {A = ℕ} 0 1 = cc in omega arith)
 
-  pub lists-stop : (w : Why) → r ≡ decided.Refused w → some (why_says w) ≡ refusal_of (passed_lists g ts (l ∷ ls))
+  pub lists-stop : (w : codes.Refusal) → r ≡ Err w → some (code.refusal_of w) ≡ refusal_of (passed_lists g ts (l ∷ ls))
   unfolding passed_lists after
   lists-stop w q = by (passed g ts (records_in l)) (sym (rw q) ∙ e)
     where
-      by : (P : Answer Passed) → refused (why_says w) none ≡ (P then λ (p : Passed). done p.temporaries) → some (why_says w) ≡ refusal_of (after P)
+      by : (P : Answer Passed) → refused (code.refusal_of w) none ≡ (P then λ (p : Passed). done p.temporaries) → some (code.refusal_of w) ≡ refusal_of (after P)
       by (done p) z = absurd (let y : ◌≡◌ {A = ℕ} 0 1 = cc in omega arith)
-      by (refused v n) z = ap some (let y : why_says w ≡ v = cc in y)
+      by (refused v n) z = ap some (let y : code.refusal_of w ≡ v = cc in y)
 
   -- the last list
   pub lists-last : ls ≡ [] → decided_refusal r ≡ refusal_of (passed_lists g ts (l ∷ ls))
   unfolding passed_lists
   lists-last z = by r refl
     where
-      by : (d : Decided) → r ≡ d → decided_refusal d ≡ refusal_of (passed_lists g ts (l ∷ ls))
-      by decided.Done q = sym (sym (lists-next q) ∙ rw z)
-      by (decided.Refused w) q = lists-stop w q
+      by : (d : Result Unit codes.Refusal) → r ≡ d → decided_refusal d ≡ refusal_of (passed_lists g ts (l ∷ ls))
+      by (Ok t) q = sym (sym (lists-next q) ∙ rw z)
+      by (Err w) q = lists-stop w q
 
 -- ---- writing
 
@@ -118,25 +115,25 @@ good_more l ls b e h q =
     rw (z, q)
 
 module _ (g : Given) (ls : List (List ℕ)) where
-  pub answers-malformed : good_lists ls ≡ false → DimensionedIs g ls ls dimensioned.Malformed
+  pub answers-malformed : good_lists ls ≡ false → DimensionedIs g ls ls (Err code_of.Malformed)
   unfolding dimensions
   answers-malformed h = record { says = rw h; lists = rw h }
 
-  module _ (good : good_lists ls ≡ true) (r : Decided) (e : decided_refusal r ≡ refusal_of (passed_lists g unwritten ls)) where
-    pub answers-refused : (w : Why) → r ≡ decided.Refused w → (d : Dimensioned) → dimensioned_no d ≡ number (why_says w) → DimensionedIs g ls ls d
+  module _ (good : good_lists ls ≡ true) (r : Result Unit codes.Refusal) (e : decided_refusal r ≡ refusal_of (passed_lists g unwritten ls)) where
+    pub answers-refused : (w : codes.Refusal) → r ≡ Err w → (d : Result Unit codes.Refusal) → dimensioned_no d ≡ number (code.refusal_of w) → DimensionedIs g ls ls d
     unfolding dimensions
     answers-refused w q d n = by (passed_lists g unwritten ls) refl (sym (rw q) ∙ e)
       where
-        by : (L : Answer (List (List ℕ))) → passed_lists g unwritten ls ≡ L → some (why_says w) ≡ refusal_of L → DimensionedIs g ls ls d
+        by : (L : Answer (List (List ℕ))) → passed_lists g unwritten ls ≡ L → some (code.refusal_of w) ≡ refusal_of L → DimensionedIs g ls ls d
         by (done ls') y z = absurd (let v : ◌≡◌ {A = ℕ} 0 1 = cc in omega arith)
         by (refused v k) y z =
-            let u : why_says w ≡ v = cc in
+            let u : code.refusal_of w ≡ v = cc in
             record { says = rw (good, y) (n ∙ ap number u); lists = rw (good, y) }
 
-    pub answers-done : r ≡ decided.Done → (ls' : List (List ℕ)) → WritesLists g unwritten ls ls' → DimensionedIs g ls ls' dimensioned.Done
+    pub answers-done : r ≡ Ok tt → (ls' : List (List ℕ)) → WritesLists g unwritten ls ls' → DimensionedIs g ls ls' (Ok tt)
     unfolding dimensions
     answers-done q ls' w = by (passed_lists g unwritten ls) refl (sym (rw q) ∙ e)
       where
-        by : (L : Answer (List (List ℕ))) → passed_lists g unwritten ls ≡ L → none ≡ refusal_of L → DimensionedIs g ls ls' dimensioned.Done
+        by : (L : Answer (List (List ℕ))) → passed_lists g unwritten ls ≡ L → none ≡ refusal_of L → DimensionedIs g ls ls' (Ok tt)
         by (done xs) y z = record { says = rw (good, y); lists = rw (good, y) (w xs y) }
         by (refused v k) y z = absurd (let u : ◌≡◌ {A = ℕ} 0 1 = cc in omega arith)

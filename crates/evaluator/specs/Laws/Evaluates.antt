@@ -1,18 +1,19 @@
 -- THE ANSWER, by the way that the code comes to it: each is what Answer.antt says.
 -- Assumes nothing.
-use Rattle.std.specs.Prelude.{ℕ, ◌≤◌, ◌≡◌, refl, Bool, true, false, ◌&&◌, List, [], length, replicate, leb}
+use Rattle.std.specs.Prelude.{Result, Ok, Err, ℕ, ◌≤◌, ◌≡◌, refl, Bool, true, false, ◌&&◌, List, [], length, replicate, leb}
 use Rattle.std.proofs.Common.{sym, ◌∙◌, ap, subst}
 use Rattle.std.proofs.Math.Option.{Option, none}
 use borrow.Author.Tests.{leb-true}
 use Rattle.meaning.specs.Refusals.{Refusal, Answer, done, refused}
 use Rattle.meaning.proofs.Laws.Tests.{and_left, and_right, done-same, done-not-refused, true-false}
-use Rattle.frames.specs.Order.{Input, blame_answer, node_limit}
+use Rattle.kinds.specs.Answers.{refusal_of, blame_of, refusing}
+use Rattle.kinds.specs.declared.refusal.Refusal as code
+use Rattle.kinds.specs.declared.refusal.Refusal.TheVariants as refusal
+use Rattle.kinds.specs.declared.refusal.Refused.{Refused}
+use Rattle.frames.specs.Order.{Input, node_limit}
 use Rattle.frames.specs.Tables.{Tables, input_in}
 use Rattle.frames.specs.Reading.{held}
 use Rattle.frames.specs.declared.count.Counts.{Counts}
-use Rattle.frames.specs.declared.count.Blame.{Blame}
-use Rattle.frames.specs.declared.count.Reading.{Reading}
-use Rattle.frames.specs.declared.count.Reading.TheVariants as was
 use Rattle.pool.specs.Pool.{Pool}
 use Rattle.pool.specs.Verdict.{Verdict}
 use Rattle.pool.specs.Numbered.{pool_of}
@@ -27,10 +28,7 @@ use Rattle.evaluator_cells.specs.Literals.{brought_at, NumbersAre, NumbersOf, Fi
 use Rattle.evaluator_cells.specs.Laws.Literals.{numbers_of, numbers-below}
 use Rattle.evaluator_run.specs.Evaluation.{Valued, well_formed, ruling}
 use Rattle.evaluator_run.specs.Computing.{ComputeAsks, ComputeGiven, computed_says}
-use Rattle.evaluator_run.specs.declared.compute.Computed.{Computed}
-use Rattle.evaluator.specs.Answer.{Judged, Evaluates, answer_says, Tells, PoolAsks, PoolEvaluated, ReadEvaluated}
-use Rattle.evaluator.specs.declared.evaluate.Evaluation.{Evaluation}
-use Rattle.evaluator.specs.declared.evaluate.Evaluation.TheVariants as answer
+use Rattle.evaluator.specs.Answer.{Evaluation, Judged, Evaluates, answer_says, Tells, PoolAsks, PoolEvaluated, ReadEvaluated}
 
 -- ---- an admitted pool
 
@@ -71,19 +69,19 @@ module _ {count : ℕ} {list : List ℕ} {m : ℕ} {ws : List ℕ} (a : PoolAsks
 
     -- the answer is what was computed
     pub pool-told :
-        {out out' : List ℕ} {c : Computed} {r : Evaluation} → ComputeGiven ns ws m list out out' c → answer_says r ≡ computed_says c
+        {out out' : List ℕ} {c : Result ℕ code.Refusal} {r : Evaluation} → ComputeGiven ns ws m list out out' c → answer_says r ≡ computed_says c
         → PoolEvaluated nodes literals count list m ws out out' r
     pool-told g q e k =
         let z = g (brought_at (tabled (Tabling nodes literals e count k))) (brought e k) in
         record { says = q ∙ z.says; bytes = z.bytes }
 
-pub told_as : {c d : Computed} {x : Answer ℕ} → c ≡ d → x ≡ computed_says d → x ≡ computed_says c
+pub told_as : {c d : Result ℕ code.Refusal} {x : Answer ℕ} → c ≡ d → x ≡ computed_says d → x ≡ computed_says c
 told_as e h = h ∙ ap computed_says (sym e)
 
 -- ---- what was read
 
 module _ (nodes literals expressions : List ℕ) (c : Counts) (list : List ℕ) (m : ℕ) (ws out : List ℕ) {b : Bool} (e : b ≡ well_formed ws m list) where
-  pub ill-formed : b ≡ false → ReadEvaluated nodes literals expressions c list m ws out out answer.IllFormed
+  pub ill-formed : b ≡ false → ReadEvaluated nodes literals expressions c list m ws out out (refusing refusal.Malformed)
   ill-formed h =
       record {
         answer = refused Refusal.malformed none;
@@ -123,7 +121,7 @@ refused-both {k = k} {l = l} {o = o} {p = p} e =
     let b : o ≡ p = cc in
     rw (a, b)
 
-module _ {u : Tables} {x : Answer Input} {r : Reading} (a : ReadInto u r x) (list : List ℕ) (m : ℕ) (ws : List ℕ) (out : List ℕ) where
+module _ {u : Tables} {x : Answer Input} {r : Result Counts Refused} (a : ReadInto u r x) (list : List ℕ) (m : ℕ) (ws : List ℕ) (out : List ℕ) where
   unread : {k : Refusal} {o : Option ℕ} → refused k o ≡ x → Evaluates list m ws (length out) x (refused k o)
   unread h =
       record {
@@ -135,13 +133,10 @@ module _ {u : Tables} {x : Answer Input} {r : Reading} (a : ReadInto u r x) (lis
   abbrev Is : List ℕ → Evaluation → Type 0
   Is out' g = (z : Answer (List Valued)) × Evaluates list m ws (length out) x z × Tells z out out' g
 
-  pub malformed-told : {b : Blame} → r ≡ was.Malformed b → Is out (answer.Malformed b)
-  malformed-told {b} q = (refused Refusal.malformed (blame_answer b), unread (ap (held u) (sym q) ∙ a.answer), record { says = refl; bytes = refl })
+  pub unread-told : {f : Refused} → r ≡ Err f → Is out (Err f)
+  unread-told {f} q = (refused (refusal_of f.refusal) (blame_of f.node), unread (ap (held u) (sym q) ∙ a.answer), record { says = refl; bytes = refl })
 
-  pub limit-told : {b : Blame} → r ≡ was.Full b → Is out (answer.Limit b)
-  limit-told {b} q = (refused Refusal.full (blame_answer b), unread (ap (held u) (sym q) ∙ a.answer), record { says = refl; bytes = refl })
-
-  pub read_told : {c : Counts} {out' : List ℕ} {g : Evaluation} → r ≡ was.Read c → ReadEvaluated u.nodes u.literals u.expressions c list m ws out out' g → Is out' g
+  pub read_told : {c : Counts} {out' : List ℕ} {g : Evaluation} → r ≡ Ok c → ReadEvaluated u.nodes u.literals u.expressions c list m ws out out' g → Is out' g
   read_told {c} q h = (
     h.answer,
     record {

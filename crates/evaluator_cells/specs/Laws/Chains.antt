@@ -1,6 +1,6 @@
 -- Laws of the table's chains: a table of no cells, one cell more, and the walk down a chain.
 -- Assumes nothing.
-use Rattle.std.specs.Prelude.{ℕ, ◌+◌, ◌-◌, ◌<◌, ◌≤◌, ◌≡◌, refl, Bool, true, false, List, ◌⊎◌, length, get_or, set, replicate, eqb, ltb}
+use Rattle.std.specs.Prelude.{ℕ, ◌+◌, ◌-◌, ◌<◌, ◌≤◌, ◌≡◌, refl, Bool, true, false, List, ◌⊎◌, length, get_or, set, replicate, eqb, ltb, Some, None}
 use Rattle.std.proofs.Common.{sym, ◌∙◌, ap, inl, inr, eq-or-lt_of_le, mod-lt, arith, eqb-true, ltb-true, ltb-false}
 use Rattle.std.proofs.Math.ListN.{length-set, get_or-eq_default}
 use Rattle.std.proofs.lemmas.List.{length-replicate, get_or-replicate}
@@ -8,7 +8,6 @@ use Rattle.std.proofs.Math.Seq.{get_or-set_same, get_or-set_other}
 use Rattle.std.proofs.lemmas.Bool.{eqb-false}
 use Rattle.evaluator_cells.specs.Cells.{cell_limit, id_limit, id_in, index_of, Chained}
 use Rattle.evaluator_cells.specs.Laws.Index.{index_at, index_none}
-use Rattle.evaluator_cells.specs.declared.cells.Found.TheVariants as found
 
 pub id-small : (key : ℕ) → id_in key < id_limit
 unfolding id_in
@@ -205,10 +204,10 @@ module _ {hs ns ks : List ℕ} {n : ℕ} (c : Chained hs ns ks n) where
       by j l e (inl q) = absurd (h (rw (← q) e))
       by j l e (inr k) = c.next_last j (at - 1) k (omega (arith, w.below)) (ap id_in e ∙ sym (w.same g))
 
-  pub walk_finds : {key at : ℕ} → Walked ks n key at → 0 < at → get_or ks (at - 1) 0 ≡ key → found.At (at - 1) ≡ index_of ks n key
+  pub walk_finds : {key at : ℕ} → Walked ks n key at → 0 < at → get_or ks (at - 1) 0 ≡ key → Some (at - 1) ≡ index_of ks n key
   walk_finds {key} {at} w g e =
       let i : at - 1 < n = omega (arith, w.below) in
       sym (index_at ks n key (at - 1) i e (λ j l q. c.apart j (at - 1) l i (q ∙ sym e)))
 
-  pub walk_ends : {key at : ℕ} → Walked ks n key at → at ≤ 0 → found.Nothing ≡ index_of ks n key
+  pub walk_ends : {key at : ℕ} → Walked ks n key at → at ≤ 0 → None ≡ index_of ks n key
   walk_ends {key} {at} w g = sym (index_none ks n key (λ j l e. omega (arith, w.passed j l e)))

@@ -38,8 +38,9 @@ use Rattle.lists.specs.Laws.{good-append}
 use Rattle.evaluator_run.specs.Laws.Holding.{Held, held_none, nth-there}
 use Rattle.evaluator_run.specs.Laws.Simulation.{Narrow, NarrowStep, Fine, Simulated, simulated}
 use Rattle.evaluator_run.specs.Laws.Presence.{present_none, MarkedAll, marked_all}
-use Rattle.evaluator_run.specs.declared.compute.Computed.{Computed}
-use Rattle.evaluator_run.specs.declared.compute.Computed.TheVariants as computed
+use Rattle.std.specs.Prelude.{Result, Ok, Err}
+use Rattle.kinds.specs.declared.refusal.Refusal as code
+use Rattle.kinds.specs.declared.refusal.Refusal.TheVariants as refusal
 
 -- ---- the table at the beginning
 
@@ -160,21 +161,21 @@ module _ (s : Store ℕ) (ds : List Cell) (t : Table) (h : Held s ds t) where
 -- ---- the cells put
 
 module _ (ks vs : List ℕ) (n : ℕ) (out : List ℕ) where
-  pub put_full : length out < valued_size * n → PutGiven ks vs n out out computed.Full
+  pub put_full : length out < valued_size * n → PutGiven ks vs n out out (Err refusal.Full)
   put_full h = record { says = rw (lt-leb (valued_size * n) (length out) h); bytes = rw (lt-leb (valued_size * n) (length out) h) }
 
-  pub put-done : {out' : List ℕ} → valued_size * n ≤ length out → out' ≡ write out 0 (keyed_to ks vs n) → PutGiven ks vs n out out' (computed.Cells n)
+  pub put-done : {out' : List ℕ} → valued_size * n ≤ length out → out' ≡ write out 0 (keyed_to ks vs n) → PutGiven ks vs n out out' (Ok n)
   put-done h e = record { says = rw (le-leb (valued_size * n) (length out) h); bytes = rw (le-leb (valued_size * n) (length out) h) e }
 
 -- ---- the answer
 
 module _ (L : ℕ → Lit) (g : Lent) (m : ℕ) (list out : List ℕ) where
   answer-is :
-      {out' : List ℕ} {r : Computed} (a : Answer (List Valued)) → ruling L g m list (length out) ≡ a
+      {out' : List ℕ} {r : Result ℕ code.Refusal} (a : Answer (List Valued)) → ruling L g m list (length out) ≡ a
       → computed_says r ≡ (a then λ vs. done (length vs)) → out' ≡ out_after out a → ComputedIs L g m list out out' r
   answer-is a e p q = record { says = p ∙ ap (λ x. x then λ vs. done (length vs)) (sym e); bytes = q ∙ ap (out_after out) (sym e) }
 
-  refused-is : bind (steps_from L (records_in list)) (λ xs. run (modulo m) (given m g) xs empty) ≡ none → ComputedIs L g m list out out computed.NoRule
+  refused-is : bind (steps_from L (records_in list)) (λ xs. run (modulo m) (given m g) xs empty) ≡ none → ComputedIs L g m list out out (Err refusal.NoRule)
   unfolding ruling
   refused-is h = answer-is (refused Refusal.no_rule none) (ap (ruled (length out)) (by (steps_from L (records_in list)) h)) refl refl
     where
@@ -188,12 +189,12 @@ module _ (L : ℕ → Lit) (g : Lent) (m : ℕ) (list out : List ℕ) where
     unfolding ruling
     fitting-is = rw (e, f)
 
-    full_is : (leb (length (written xs)) cell_limit && leb (valued_size * length (written xs)) (length out)) ≡ false → ComputedIs L g m list out out computed.Full
+    full_is : (leb (length (written xs)) cell_limit && leb (valued_size * length (written xs)) (length out)) ≡ false → ComputedIs L g m list out out (Err refusal.Full)
     full_is h = answer-is (refused Refusal.full none) (fitting-is ∙ rw (valued-length s (written xs), h)) refl refl
 
     done-is :
         {out' : List ℕ} (n : ℕ) → length (written xs) ≡ n → n ≤ cell_limit → valued_size * n ≤ length out → out' ≡ write out 0 (values_bytes (valued_by s (written xs)))
-        → ComputedIs L g m list out out' (computed.Cells n)
+        → ComputedIs L g m list out out' (Ok n)
     done-is n c l r q =
         answer-is (done (valued_by s (written xs))) (fitting-is ∙ rw (valued-length s (written xs), c, le-leb n cell_limit l, le-leb (valued_size * n) (length out) r))
         (ap done (sym (valued-length s (written xs) ∙ c))) q
@@ -210,24 +211,24 @@ module _ (ns : List ℕ) (ws : List ℕ) (m : ℕ) (list : List ℕ) (asks : Com
       subst (Simulated L m g (records_in list) empty []) (sym e)
       (simulated L m g ns N (records_in list) fine asks.lends.modulus asks.reduced empty [] t (held_none t none_yet) kept)
 
-  pub answer-no-rule : (out : List ℕ) → no_rule ≡ run_to ns m g t (records_in list) → ComputeGiven ns ws m list out out computed.NoRule
+  pub answer-no-rule : (out : List ℕ) → no_rule ≡ run_to ns m g t (records_in list) → ComputeGiven ns ws m list out out (Err refusal.NoRule)
   answer-no-rule out e L N = refused-is L g m list out (sim L N no_rule e)
 
   marks : (L : ℕ → Lit) → MarkedAll L m g (records_in list) empty (marks_to m g (replicate slot_count 0) (records_in list))
   marks L = marked_all L m g (records_in list) fine empty (replicate slot_count 0) present_none
 
   module _ (out : List ℕ) (e : over ≡ run_to ns m g t (records_in list)) (c : Bool) (ec : c ≡ is_known (marks_to m g (replicate slot_count 0) (records_in list))) where
-    pub answer-over : c ≡ true → ComputeGiven ns ws m list out out computed.Full
+    pub answer-over : c ≡ true → ComputeGiven ns ws m list out out (Err refusal.Full)
     answer-over h L N = by (marks_to m g (replicate slot_count 0) (records_in list)) (marks L) (sym ec ∙ h)
       where
-        by : (z : Option (List ℕ)) → MarkedAll L m g (records_in list) empty z → is_known z ≡ true → ComputedIs L g m list out out computed.Full
+        by : (z : Option (List ℕ)) → MarkedAll L m g (records_in list) empty z → is_known z ≡ true → ComputedIs L g m list out out (Err refusal.Full)
         by none y q = absurd (true-false {b = false} q refl)
         by (some z) y q = full_is L g m list out y.0 y.1 y.2.0 y.2.1 (rw (lt-leb (length (written y.0)) cell_limit (sim L N over e y.0 y.1)))
 
-    pub answer-over-refused : c ≡ false → ComputeGiven ns ws m list out out computed.NoRule
+    pub answer-over-refused : c ≡ false → ComputeGiven ns ws m list out out (Err refusal.NoRule)
     answer-over-refused h L N = by (marks_to m g (replicate slot_count 0) (records_in list)) (marks L) (sym ec ∙ h)
       where
-        by : (z : Option (List ℕ)) → MarkedAll L m g (records_in list) empty z → is_known z ≡ false → ComputedIs L g m list out out computed.NoRule
+        by : (z : Option (List ℕ)) → MarkedAll L m g (records_in list) empty z → is_known z ≡ false → ComputedIs L g m list out out (Err refusal.NoRule)
         by none y q = refused-is L g m list out y
         by (some z) y q = absurd (true-false {b = true} refl q)
 
@@ -250,7 +251,7 @@ module _ (ns : List ℕ) (ws : List ℕ) (m : ℕ) (list : List ℕ) (asks : Com
         let z = ended own own_of in
         record { few = answer-few; small = keys-small z.2.0 (written z.0) (table hs xs ks vs n) z.2.2 }
 
-    pub answer-cells : (out : List ℕ) {out' : List ℕ} {r : Computed} → PutGiven ks vs n out out' r → ComputeGiven ns ws m list out out' r
+    pub answer-cells : (out : List ℕ) {out' : List ℕ} {r : Result ℕ code.Refusal} → PutGiven ks vs n out out' r → ComputeGiven ns ws m list out out' r
     answer-cells out {out'} {r} p L N = by (leb (valued_size * n) (length out)) refl p.says p.bytes
       where
         z : Simulated L m g (records_in list) empty [] (next (table hs xs ks vs n))
@@ -260,7 +261,7 @@ module _ (ns : List ℕ) (ws : List ℕ) (m : ℕ) (list : List ℕ) (asks : Com
         count = z.2.2.count
 
         by :
-            (b : Bool) → leb (valued_size * n) (length out) ≡ b → r ≡ cond b (computed.Cells n) computed.Full → out' ≡ cond b (write out 0 (keyed_to ks vs n)) out
+            (b : Bool) → leb (valued_size * n) (length out) ≡ b → r ≡ cond b (Ok n) (Err refusal.Full) → out' ≡ cond b (write out 0 (keyed_to ks vs n)) out
             → ComputedIs L g m list out out' r
         by true h u v =
             rw u

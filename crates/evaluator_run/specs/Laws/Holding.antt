@@ -19,8 +19,7 @@ use Rattle.evaluator_run.specs.Evaluation.{is_among, adding}
 use Rattle.evaluator_step.specs.Machine.{Table, table, Kept, value_at, lookup, Outcome, next, no_rule, over, stored_at, stored}
 use Rattle.evaluator_cells.specs.Laws.Keys.{Small, key_of, key-same}
 use Rattle.evaluator_cells.specs.Laws.Index.{index_there, index_not}
-use Rattle.evaluator_cells.specs.declared.cells.Found.{Found}
-use Rattle.evaluator_cells.specs.declared.cells.Found.TheVariants as found
+use Rattle.std.specs.Prelude as code
 
 -- ---- members of a list by number
 
@@ -86,7 +85,7 @@ held_none t e =
 
 module _ (s : Store ℕ) (ds : List Cell) (t : Table) (h : Held s ds t) where
   -- the cell at the number of a key
-  cell_at : (c : Cell) (i : ℕ) → Small c → index_of t.keys t.count (key_of c) ≡ found.At i → nth ds i ≡ some c
+  cell_at : (c : Cell) (i : ℕ) → Small c → index_of t.keys t.count (key_of c) ≡ code.Some i → nth ds i ≡ some c
   cell_at c i l e =
       let w = index_there t.keys t.count (key_of c) i e in
       let d = nth-there ds i (omega (arith, w.0, h.count)) in
@@ -97,9 +96,9 @@ module _ (s : Store ℕ) (ds : List Cell) (t : Table) (h : Held s ds t) where
   unfolding lookup
   lookup-is c l = by (index_of t.keys t.count (key_of c)) refl
     where
-      by : (f : Found) → index_of t.keys t.count (key_of c) ≡ f → value_at t.values f ≡ s c
-      by (found.At i) e = sym (h.values i c (cell_at c i l e))
-      by found.Nothing e = sym (h.others c l (index_not t.keys t.count (key_of c) e))
+      by : (f : code.Option ℕ) → index_of t.keys t.count (key_of c) ≡ f → value_at t.values f ≡ s c
+      by (code.Some i) e = sym (h.values i c (cell_at c i l e))
+      by code.None e = sym (h.others c l (index_not t.keys t.count (key_of c) e))
 
   module _ (m : ℕ) (k : Kept m t) (p : Cell) (l : Small p) (v : ℕ) where
     -- a cell at another number is another cell
@@ -113,7 +112,7 @@ module _ (s : Store ℕ) (ds : List Cell) (t : Table) (h : Held s ds t) where
         let b : j < t.count = omega (arith, nth-below ds j f, h.count) in
         n (sym (k.chained.apart i j a b x)))
 
-    module _ (i : ℕ) (e : index_of t.keys t.count (key_of p) ≡ found.At i) where
+    module _ (i : ℕ) (e : index_of t.keys t.count (key_of p) ≡ code.Some i) where
       here : nth ds i ≡ some p
       here = cell_at p i l e
 
@@ -146,7 +145,7 @@ module _ (s : Store ℕ) (ds : List Cell) (t : Table) (h : Held s ds t) where
       unfolding adding
       adding-old = rw (among-at ds i p here)
 
-    module _ (e : index_of t.keys t.count (key_of p) ≡ found.Nothing) (room : t.count < cell_limit) where
+    module _ (e : index_of t.keys t.count (key_of p) ≡ code.None) (room : t.count < cell_limit) where
       nowhere : (j : ℕ) (d : Cell) → nth ds j ≡ some d → same p d ≡ false
       nowhere j d f =
           not-true (same p d)
@@ -204,7 +203,7 @@ module _ (s : Store ℕ) (ds : List Cell) (t : Table) (h : Held s ds t) where
             others = new_others;
           }
 
-    adding-new : index_of t.keys t.count (key_of p) ≡ found.Nothing → adding p ds ≡ ds ++ (p ∷ [])
+    adding-new : index_of t.keys t.count (key_of p) ≡ code.None → adding p ds ≡ ds ++ (p ∷ [])
     unfolding adding
     adding-new e =
         let q : is_among p ds ≡ false
@@ -225,7 +224,7 @@ module _ (s : Store ℕ) (ds : List Cell) (t : Table) (h : Held s ds t) where
     stored-holds = by (index_of t.keys t.count (key_of p)) refl
       where
         fresh :
-            (b : Bool) → ltb t.count cell_limit ≡ b → (e : index_of t.keys t.count (key_of p) ≡ found.Nothing)
+            (b : Bool) → ltb t.count cell_limit ≡ b → (e : index_of t.keys t.count (key_of p) ≡ code.None)
             → Stored
             (cond b
             (next
@@ -235,6 +234,6 @@ module _ (s : Store ℕ) (ds : List Cell) (t : Table) (h : Held s ds t) where
         fresh true q e = rw (adding-new e) (held_new e (ltb-true t.count cell_limit q) _ _)
         fresh false q e = rw (adding-new e, length-append ds (p ∷ [])) (omega (arith, ltb-false t.count cell_limit q, h.count))
 
-        by : (f : Found) → index_of t.keys t.count (key_of p) ≡ f → Stored (stored_at t (key_of p) v f)
-        by (found.At i) e = rw (adding-old i e) (held-old i e)
-        by found.Nothing e = fresh (ltb t.count cell_limit) refl e
+        by : (f : code.Option ℕ) → index_of t.keys t.count (key_of p) ≡ f → Stored (stored_at t (key_of p) v f)
+        by (code.Some i) e = rw (adding-old i e) (held-old i e)
+        by code.None e = fresh (ltb t.count cell_limit) refl e

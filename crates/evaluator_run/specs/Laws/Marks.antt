@@ -19,7 +19,7 @@ use Rattle.evaluator_cells.specs.Before.{known, before_in}
 use Rattle.evaluator_step.specs.Machine.{value_by, count_to_read}
 use Rattle.evaluator_run.specs.Presence.{is_known, class_no, slot_count, slot_by, slot_no, SlotIs, seen_at, has_in, mark_as, mark_to, onward, marks_to, marks_are}
 use Rattle.evaluator_step.specs.Laws.Steps.{gives-three, gives-no-third}
-use Rattle.evaluator_cells.specs.declared.given.Value.{Value}
+use Rattle.std.specs.Prelude as code
 
 -- ---- slots
 
@@ -56,6 +56,10 @@ module _ (x : Reference) (c : ℕ) (e : c ≡ class_no x.kind) (l : x.id < id_li
 
 -- ---- a source
 
+pub known-some : (v : code.Option ℕ) → code.is_some v ≡ is_known (known v)
+known-some (code.Some v) = refl
+known-some code.None = refl
+
 module _ (m : ℕ) (g : Lent) (p : List ℕ) (r : Reference) where
   pub has-number : r.kind ≡ kind.number → true ≡ has_in m g p r
   unfolding has_in
@@ -68,7 +72,7 @@ module _ (m : ℕ) (g : Lent) (p : List ℕ) (r : Reference) where
         let z : eqb (get_or p (slot_no r) 0) 1 ≡ true = eq-eqb (get_or p (slot_no r) 0) 1 (rw (← e) f) in
         rw (ne_eqb r.kind kind.number h, z)
 
-    pub has-given : (get_or p n 0 ≡ 1 → ⊥) → (v : Value) → known v ≡ before_in m g r.kind r.id r.prime → is_known (known v) ≡ has_in m g p r
+    pub has-given : (get_or p n 0 ≡ 1 → ⊥) → (v : code.Option ℕ) → known v ≡ before_in m g r.kind r.id r.prime → is_known (known v) ≡ has_in m g p r
     unfolding has_in seen_at
     has-given f v q =
         let z : eqb (get_or p (slot_no r) 0) 1 ≡ false = ne_eqb (get_or p (slot_no r) 0) 1 (λ y. f (rw e y)) in

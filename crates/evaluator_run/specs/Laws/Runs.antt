@@ -8,20 +8,21 @@ use Rattle.kinds.specs.Steps.{step_size, step_at, steps_of, steps-none, steps-mo
 use Rattle.kinds.specs.declared.step.Step as bytes
 use Rattle.evaluator_cells.specs.Given.{Lent}
 use Rattle.lists.specs.Records.{record_count, records_in}
-use Rattle.evaluator_step.specs.Machine.{Table, table, Outcome, next, no_rule, over, after, step_to, run_to, ran_to}
-use Rattle.evaluator_step.specs.declared.step.Ran.{Ran}
-use Rattle.evaluator_step.specs.declared.step.Ran.TheVariants as ran
+use Rattle.evaluator_step.specs.Machine.{Table, Outcome, next, no_rule, over, after, step_to, run_to, ran_to}
+use Rattle.std.specs.Prelude.{Result, Ok, Err}
+use Rattle.evaluator_step.specs.declared.step.Stop.{Stop}
+use Rattle.evaluator_step.specs.declared.step.Stop.TheVariants as stop
 
 -- what the answer of a step says
-module _ (r : Ran) (hs xs ks vs : List ℕ) (o : Outcome) (e : ran_to r hs xs ks vs ≡ o) where
-  pub told-no-rule : r ≡ ran.NoRule → no_rule ≡ o
+module _ {A : Type 0} (r : Result A Stop) (t : Table) (o : Outcome) (e : ran_to r t ≡ o) where
+  pub told-no-rule : r ≡ Err stop.NoRule → no_rule ≡ o
   told-no-rule h = rw h at e
 
-  pub told_over : r ≡ ran.Over → over ≡ o
+  pub told_over : r ≡ Err stop.Over → over ≡ o
   told_over h = rw h at e
 
-  pub told-cells : (n : ℕ) → r ≡ ran.Cells n → next (table hs xs ks vs n) ≡ o
-  told-cells n h = rw h at e
+  pub told-cells : (a : A) → r ≡ Ok a → next t ≡ o
+  told-cells a h = rw h at e
 
 module _ (ns : List ℕ) (m : ℕ) (g : Lent) where
   pub runs_append :
@@ -72,6 +73,11 @@ module _ (ns : List ℕ) (m : ℕ) (g : Lent) where
 
       pub run-over : over ≡ step_to ns m g u x → k < record_count l → over ≡ run_to ns m g t (records_in l)
       run-over f q = later over (λ f. refl) f q
+
+      -- a step that ends the run ends the whole of it
+      pub run-stops : (A B : Type 0) (e : Stop) (v : Table) → ran_to {A = A} (Err e) v ≡ step_to ns m g u x → k < record_count l → ran_to {A = B} (Err e) v ≡ run_to ns m g t (records_in l)
+      run-stops A B stop.NoRule v f q = run-refused f q
+      run-stops A B stop.Over v f q = run-over f q
 
     pub run_ends : (k : ℕ) (u : Table) → run_to ns m g t (steps_of l k) ≡ next u → k ≤ record_count l → record_count l ≤ k → next u ≡ run_to ns m g t (records_in l)
     run_ends k u h a b =

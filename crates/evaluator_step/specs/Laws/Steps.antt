@@ -32,31 +32,28 @@ use Rattle.evaluator_step.specs.Machine.{Table, table, Kept, value_at, lookup, O
 use Rattle.evaluator_cells.specs.Laws.Index.{index_there, index_not}
 use Rattle.evaluator_cells.specs.Laws.Chains.{chained_more}
 use Rattle.evaluator_cells.specs.Laws.Arithmetic.{mod_below}
-use Rattle.evaluator_cells.specs.declared.cells.Found.{Found}
-use Rattle.evaluator_cells.specs.declared.cells.Found.TheVariants as found
-use Rattle.evaluator_cells.specs.declared.given.Value.{Value}
-use Rattle.evaluator_cells.specs.declared.given.Value.TheVariants as value
+use Rattle.std.specs.Prelude as code
 
 -- ---- a store
 
-pub stored-old : (t : Table) (key v i : ℕ) (f : Found) → f ≡ index_of t.keys t.count key → f ≡ found.At i → next (table t.heads t.nexts t.keys (set t.values i v) t.count) ≡ stored t key v
+pub stored-old : (t : Table) (key v i : ℕ) (f : code.Option ℕ) → f ≡ index_of t.keys t.count key → f ≡ code.Some i → next (table t.heads t.nexts t.keys (set t.values i v) t.count) ≡ stored t key v
 unfolding stored
 stored-old t key v i f p q =
-    let e : index_of t.keys t.count key ≡ found.At i = sym p ∙ q in
+    let e : index_of t.keys t.count key ≡ code.Some i = sym p ∙ q in
     rw e
 
 pub stored-new :
-    {hs ns ks vs : List ℕ} (t : Table) (key v : ℕ) (f : Found) → f ≡ index_of t.keys t.count key → f ≡ found.Nothing → t.count < cell_limit
-    → Adds t.heads t.nexts t.keys t.values t.count key v hs ns ks vs → next (table hs ns ks vs (t.count + 1)) ≡ stored t key v
+    {u : Table} (t : Table) (key v : ℕ) (f : code.Option ℕ) → f ≡ index_of t.keys t.count key → f ≡ code.None → t.count < cell_limit
+    → Adds t key v u → next u ≡ stored t key v
 unfolding stored
 stored-new t key v f p q l a =
-    let e : index_of t.keys t.count key ≡ found.Nothing = sym p ∙ q in
-    rw (e, lt-ltb t.count cell_limit l, a.heads, a.nexts, a.keys, a.values)
+    let e : index_of t.keys t.count key ≡ code.None = sym p ∙ q in
+    rw (e, lt-ltb t.count cell_limit l, ← a.heads, ← a.nexts, ← a.keys, ← a.values, ← a.count)
 
-pub stored-over : (t : Table) (key v : ℕ) (f : Found) → f ≡ index_of t.keys t.count key → f ≡ found.Nothing → cell_limit ≤ t.count → over ≡ stored t key v
+pub stored-over : (t : Table) (key v : ℕ) (f : code.Option ℕ) → f ≡ index_of t.keys t.count key → f ≡ code.None → cell_limit ≤ t.count → over ≡ stored t key v
 unfolding stored
 stored-over t key v f p q l =
-    let e : index_of t.keys t.count key ≡ found.Nothing = sym p ∙ q in
+    let e : index_of t.keys t.count key ≡ code.None = sym p ∙ q in
     rw (e, le-ltb t.count cell_limit l)
 
 -- ---- a source
@@ -67,19 +64,19 @@ module _ (ns : List ℕ) (m : ℕ) (g : Lent) (t : Table) (r : Reference) where
   read_number v h e = rw (eq-eqb r.kind kind.number h) (ap some e)
 
   pub read-written :
-      (p i : ℕ) (f : Found) → (r.kind ≡ kind.number → ⊥) → p ≡ place_no r → f ≡ index_of t.keys t.count p → f ≡ found.At i
+      (p i : ℕ) (f : code.Option ℕ) → (r.kind ≡ kind.number → ⊥) → p ≡ place_no r → f ≡ index_of t.keys t.count p → f ≡ code.Some i
       → some (get_or t.values i 0) ≡ read_in ns m g t r
   unfolding read_in lookup
   read-written p i f h e a b =
-      let q : index_of t.keys t.count (place_no r) ≡ found.At i = rw (← e) (sym a ∙ b) in
+      let q : index_of t.keys t.count (place_no r) ≡ code.Some i = rw (← e) (sym a ∙ b) in
       rw (ne_eqb r.kind kind.number h, q)
 
   pub read-given :
-      (p : ℕ) (f : Found) (v : Value) → (r.kind ≡ kind.number → ⊥) → p ≡ place_no r → f ≡ index_of t.keys t.count p → f ≡ found.Nothing
+      (p : ℕ) (f : code.Option ℕ) (v : code.Option ℕ) → (r.kind ≡ kind.number → ⊥) → p ≡ place_no r → f ≡ index_of t.keys t.count p → f ≡ code.None
       → known v ≡ before_in m g r.kind r.id r.prime → known v ≡ read_in ns m g t r
   unfolding read_in lookup
   read-given p f v h e a b k =
-      let q : index_of t.keys t.count (place_no r) ≡ found.Nothing = rw (← e) (sym a ∙ b) in
+      let q : index_of t.keys t.count (place_no r) ≡ code.None = rw (← e) (sym a ∙ b) in
       rw (ne_eqb r.kind kind.number h, q) k
 
 -- what is read is below m
@@ -129,9 +126,9 @@ module _ (m : ℕ) (o : Modulus m) where
     unfolding lookup
     below-lookup key = by (index_of t.keys t.count key) refl
       where
-        by : (f : Found) → index_of t.keys t.count key ≡ f → Below m (value_at t.values f)
-        by (found.At i) e = below-some m (get_or t.values i 0) (k.reduced i (index_there t.keys t.count key i e).0)
-        by found.Nothing e = below_none m
+        by : (f : code.Option ℕ) → index_of t.keys t.count key ≡ f → Below m (value_at t.values f)
+        by (code.Some i) e = below-some m (get_or t.values i 0) (k.reduced i (index_there t.keys t.count key i e).0)
+        by code.None e = below_none m
 
     pub read_below : (ns : List ℕ) → Reduced ns m → (g : Lent) (r : Reference) (v : ℕ) → some v ≡ read_in ns m g t r → v < m
     unfolding read_in
@@ -400,13 +397,13 @@ module _ (m : ℕ) (at : Reference → Option ℕ) (x : bytes.Step) where
 -- ---- a step
 
 module _ (ns : List ℕ) (m : ℕ) (g : Lent) (t : Table) (x : bytes.Step) where
-  pub step-no-value : (v : Value) → known v ≡ value_in ns m g t x → v ≡ value.Unknown → no_rule ≡ step_to ns m g t x
+  pub step-no-value : (v : code.Option ℕ) → known v ≡ value_in ns m g t x → v ≡ code.None → no_rule ≡ step_to ns m g t x
   unfolding step_to
   step-no-value v e f =
       let z : value_in ns m g t x ≡ none = sym e ∙ ap known f in
       rw z
 
-  module _ (w : ℕ) (v : Value) (e : known v ≡ value_in ns m g t x) (f : v ≡ value.Known w) where
+  module _ (w : ℕ) (v : code.Option ℕ) (e : known v ≡ value_in ns m g t x) (f : v ≡ code.Some w) where
     pub step-stores :
         (o : Outcome) (b : Bool) (p : ℕ) → b ≡ writable_no x.dest.kind → b ≡ true → p ≡ place_no x.dest → o ≡ stored t p w → o ≡ step_to ns m g t x
     unfolding step_to
@@ -475,7 +472,7 @@ module _ (ns : List ℕ) (m : ℕ) (o : Modulus m) (b : Reduced ns m) (g : Lent)
       by true e = rw (eqb-true j i e, get_or-set_same vs i v 0 s) l
       by false e = rw (get_or-set_other vs i j v 0 (eqb-false j i e)) (h j q)
 
-  kept-old : (key v i : ℕ) → v < m → index_of t.keys t.count key ≡ found.At i → Kept m (table t.heads t.nexts t.keys (set t.values i v) t.count)
+  kept-old : (key v i : ℕ) → v < m → index_of t.keys t.count key ≡ code.Some i → Kept m (table t.heads t.nexts t.keys (set t.values i v) t.count)
   kept-old key v i l e =
       record {
         chained = k.chained;
@@ -485,7 +482,7 @@ module _ (ns : List ℕ) (m : ℕ) (o : Modulus m) (b : Reduced ns m) (g : Lent)
       }
 
   kept_new :
-      (key v : ℕ) → v < m → index_of t.keys t.count key ≡ found.Nothing → t.count < cell_limit
+      (key v : ℕ) → v < m → index_of t.keys t.count key ≡ code.None → t.count < cell_limit
       → Kept m
       (table (set t.heads (id_in key) (t.count + 1)) (set t.nexts t.count (get_or t.heads (id_in key) 0)) (set t.keys t.count key)
       (set t.values t.count v) (t.count + 1))
@@ -511,7 +508,7 @@ module _ (ns : List ℕ) (m : ℕ) (o : Modulus m) (b : Reduced ns m) (g : Lent)
   kept-stored key v u l h = by (index_of t.keys t.count key) refl h
     where
       fresh :
-          (b : Bool) → ltb t.count cell_limit ≡ b → index_of t.keys t.count key ≡ found.Nothing
+          (b : Bool) → ltb t.count cell_limit ≡ b → index_of t.keys t.count key ≡ code.None
           → cond b
           (next
           (table (set t.heads (id_in key) (t.count + 1)) (set t.nexts t.count (get_or t.heads (id_in key) 0)) (set t.keys t.count key)
@@ -522,9 +519,9 @@ module _ (ns : List ℕ) (m : ℕ) (o : Modulus m) (b : Reduced ns m) (g : Lent)
       fresh true f e h = subst (Kept m) (next-same _ u h) (kept_new key v l e (ltb-true t.count cell_limit f))
       fresh false f e h = absurd (let z : ◌≡◌ {A = ℕ} 0 1 = cc in omega arith)
 
-      by : (f : Found) → index_of t.keys t.count key ≡ f → stored_at t key v f ≡ next u → Kept m u
-      by (found.At i) e h = subst (Kept m) (next-same _ u h) (kept-old key v i l e)
-      by found.Nothing e h = fresh (ltb t.count cell_limit) refl e h
+      by : (f : code.Option ℕ) → index_of t.keys t.count key ≡ f → stored_at t key v f ≡ next u → Kept m u
+      by (code.Some i) e h = subst (Kept m) (next-same _ u h) (kept-old key v i l e)
+      by code.None e h = fresh (ltb t.count cell_limit) refl e h
 
   -- A STEP LEAVES A SOUND TABLE
   pub kept_step : (x : bytes.Step) (u : Table) → step_to ns m g t x ≡ next u → Kept m u

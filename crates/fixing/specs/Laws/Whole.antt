@@ -1,6 +1,6 @@
 -- Laws of the whole: records of a well_formed_lem list are sound, and what each way through the entry point gives.
 -- Assumes nothing.
-use Rattle.std.specs.Prelude.{ℕ, zero, suc, ◌+◌, ◌*◌, ◌%◌, ◌<◌, ◌≤◌, Bool, not, cond, ◌&&◌, List, [], ◌∷◌, ◌++◌, ◌⊎◌, length, get_or, replicate, eqb, ltb, leb}
+use Rattle.std.specs.Prelude.{ℕ, zero, suc, ◌+◌, ◌*◌, ◌%◌, ◌<◌, ◌≤◌, Bool, not, cond, ◌&&◌, List, [], ◌∷◌, ◌++◌, ◌⊎◌, length, get_or, replicate, eqb, ltb, leb, Result, Ok, Err}
 use Rattle.std.proofs.Math.Path.{◌≡◌, refl, ap}
 use Rattle.std.proofs.Common.{sym, ◌∙◌, subst, arith}
 use Rattle.std.proofs.Math.Bool.{true, false}
@@ -23,8 +23,11 @@ use Rattle.lent_lists.specs.Walks.{walked, record_verdict}
 use Rattle.fixing.specs.ProverCode.{last_counter, ruled_reference, decided, temporaries, prover_verdict, list_after}
 use Rattle.fixing.specs.Machine.{Tables, tables, give_records, reference_in, Rewrites}
 use Rattle.fixing.specs.Answers.{ProverCodeIs, fixed_of}
-use Rattle.fixing.specs.declared.fix_prover_code.Fixed.{Fixed}
-use Rattle.fixing.specs.declared.fix_prover_code.Fixed.TheVariants as fixed
+use Rattle.kinds.specs.AnswerLaws.{refusal_same, refusal-some}
+use Rattle.kinds.specs.Answers.{refusal_of}
+use Rattle.kinds.specs.declared.refusal.Refusal as codes
+use Rattle.kinds.specs.declared.refusal.Refusal.TheVariants as code
+use Rattle.meaning.specs.Refusals.{number}
 use Rattle.lent_lists.specs.Laws.Verdicts.{no-refusal}
 use Rattle.lists.specs.Laws.{good_more}
 use Rattle.lent_lists.specs.Laws.Records.{record-used}
@@ -133,7 +136,7 @@ module _ (rules cms : List ℕ) (counter : ℕ) (first i last : List ℕ) (n : �
   abbrev s : Fixing
   s = temporaries rules counter first i last
 
-  unchanged : (w : Verdict) (r : Fixed) → prover_verdict rules cms counter first i last ≡ w → (w ≡ fine → ⊥) → r ≡ fixed_of w s.next →
+  unchanged : (w : Verdict) (r : Result ℕ codes.Refusal) → prover_verdict rules cms counter first i last ≡ w → (w ≡ fine → ⊥) → r ≡ fixed_of w s.next →
       ProverCodeIs rules cms counter first i last first i last r
   unfolding list_after
   unchanged fine r e h k = absurd (h refl)
@@ -142,28 +145,40 @@ module _ (rules cms : List ℕ) (counter : ℕ) (first i last : List ℕ) (n : �
   unchanged no_rule r e h k = record { answer = rw e k; first_is = rw e; i_is = rw e; last_is = rw e }
   unchanged full r e h k = record { answer = rw e k; first_is = rw e; i_is = rw e; last_is = rw e }
 
-  pub answer-malformed : n ≡ 1 → ProverCodeIs rules cms counter first i last first i last fixed.Malformed
+  pub answer-malformed : n ≡ 1 → ProverCodeIs rules cms counter first i last first i last (Err code.Malformed)
   unfolding prover_verdict
   answer-malformed h =
       let q : v ≡ malformed = is-malformed v (sym en ∙ h) in
-      unchanged malformed fixed.Malformed (rw q) (λ z. let y : ◌≡◌ {A = ℕ} 1 0 = ap verdict_no z in omega arith) refl
+      unchanged malformed (Err code.Malformed) (rw q) (λ z. let y : ◌≡◌ {A = ℕ} 1 0 = ap verdict_no z in omega arith) refl
 
   module _ (a : n ≡ 1 → ⊥) where
-    pub answer-not-there : n ≡ 3 → ProverCodeIs rules cms counter first i last first i last fixed.NotThere
+    pub answer-not-there : n ≡ 3 → ProverCodeIs rules cms counter first i last first i last (Err code.NotThere)
     unfolding prover_verdict
     answer-not-there h =
         let q : v ≡ not_there = is-not-there v (sym en ∙ h) in
-        unchanged not_there fixed.NotThere (rw q) (λ z. let y : ◌≡◌ {A = ℕ} 3 0 = ap verdict_no z in omega arith) refl
+        unchanged not_there (Err code.NotThere) (rw q) (λ z. let y : ◌≡◌ {A = ℕ} 3 0 = ap verdict_no z in omega arith) refl
 
-    pub answer-no-rule : (n ≡ 3 → ⊥) → (n ≡ 0 → ⊥) → ProverCodeIs rules cms counter first i last first i last fixed.NoRule
+    pub answer-no-rule : (n ≡ 3 → ⊥) → (n ≡ 0 → ⊥) → ProverCodeIs rules cms counter first i last first i last (Err code.NoRule)
     unfolding prover_verdict
     answer-no-rule b c =
         let q : v ≡ no_rule = rule (decided-cases cms counter first i last) in
-        unchanged no_rule fixed.NoRule (rw q) (λ z. let y : ◌≡◌ {A = ℕ} 10 0 = ap verdict_no z in omega arith) refl
+        unchanged no_rule (Err code.NoRule) (rw q) (λ z. let y : ◌≡◌ {A = ℕ} 10 0 = ap verdict_no z in omega arith) refl
       where
         rule : (v ≡ malformed) ⊎ Met v → v ≡ no_rule
         rule (inl w) = absurd (a (en ∙ ap verdict_no w))
         rule (inr w) = is-no-rule v w (λ z. b (en ∙ z)) (λ z. c (en ∙ z))
+
+  -- what is refused before temporaries are counted
+  pub answer-refused : (w : codes.Refusal) → n ≡ number (refusal_of w) → ProverCodeIs rules cms counter first i last first i last (Err w)
+  unfolding prover_verdict
+  answer-refused w h = by v refl (sym h ∙ en)
+    where
+      by : (x : Verdict) → v ≡ x → number (refusal_of w) ≡ verdict_no x → ProverCodeIs rules cms counter first i last first i last (Err w)
+      by fine q e = absurd (refusal-some (refusal_of w) e)
+      by malformed q e = unchanged malformed (Err w) (rw q) (λ z. let y : ◌≡◌ {A = ℕ} 1 0 = ap verdict_no z in omega arith) (ap Err (refusal_same w code.Malformed e))
+      by not_there q e = unchanged not_there (Err w) (rw q) (λ z. let y : ◌≡◌ {A = ℕ} 3 0 = ap verdict_no z in omega arith) (ap Err (refusal_same w code.NotThere e))
+      by no_rule q e = unchanged no_rule (Err w) (rw q) (λ z. let y : ◌≡◌ {A = ℕ} 10 0 = ap verdict_no z in omega arith) (ap Err (refusal_same w code.NoRule e))
+      by full q e = unchanged full (Err w) (rw q) (λ z. let y : ◌≡◌ {A = ℕ} 9 0 = ap verdict_no z in omega arith) (ap Err (refusal_same w code.Full e))
 
   -- nothing is refused before temporaries are counted
   module _ (z : n ≡ 0) (size : ℕ) (es : size ≡ id_limit) (t : Tables) (et : t ≡ give_records rules (segment_in first i last) (tables (zeros size) (zeros size) counter))
@@ -205,13 +220,13 @@ module _ (rules cms : List ℕ) (counter : ℕ) (first i last : List ℕ) (n : �
         (track_records rules (segment_in first i last) (tables (zeros size) (zeros size) counter) (begin counter) sound-all
         (exact refl small (start-shows size counter es)))
 
-    pub answer-full : last_counter < t.next → ProverCodeIs rules cms counter first i last first i last fixed.Full
+    pub answer-full : last_counter < t.next → ProverCodeIs rules cms counter first i last first i last (Err code.Full)
     unfolding prover_verdict
     answer-full h = go tracks
       where
-        go : Tracks t s → ProverCodeIs rules cms counter first i last first i last fixed.Full
+        go : Tracks t s → ProverCodeIs rules cms counter first i last first i last (Err code.Full)
         go (exact q l k) = absurd (omega arith)
-        go (past q l) = unchanged full fixed.Full (rw (is-fine, lt-leb s.next last_counter l)) (λ y. let w : ◌≡◌ {A = ℕ} 9 0 = ap verdict_no y in omega arith) refl
+        go (past q l) = unchanged full (Err code.Full) (rw (is-fine, lt-leb s.next last_counter l)) (λ y. let w : ◌≡◌ {A = ℕ} 9 0 = ap verdict_no y in omega arith) refl
 
     module _ (h : t.next ≤ last_counter) where
       fits : (s.next ≤ last_counter) × (t.next ≡ s.next) × Shows t.plain t.primed s.map
@@ -231,9 +246,9 @@ module _ (rules cms : List ℕ) (counter : ℕ) (first i last : List ℕ) (n : �
 
       pub answer-done :
           (first' i' last' : List ℕ) → Rewrites (record_by (reference_in rules cms t.plain t.primed)) first i last first' i' last' →
-          ProverCodeIs rules cms counter first i last first' i' last' (fixed.Done t.next)
+          ProverCodeIs rules cms counter first i last first' i' last' (Ok t.next)
       answer-done first' i' last' w = record {
-        answer = rw (verdict) (ap fixed.Done fits.1);
+        answer = rw (verdict) (ap Ok fits.1);
         first_is = w.first_is ∙ list-is first sound-first;
         i_is = w.i_is ∙ list-is i sound-i;
         last_is = w.last_is ∙ list-is last sound-last;

@@ -5,7 +5,7 @@ use Rattle.console.proofs.Fed.{fed}
 use Rattle.listing.proofs.main.Goals as goal
 
 pub slice_bounds-answer-end : goal.slice_bounds-answer-end
-slice_bounds-answer-end c = sym (fed _ _ _ _ c.read_all.ensures.1 c.in-Fed.is).1.kept.room
+slice_bounds-answer-end c = sym (fed _ _ _ _ c.read_all.ensures.1 c.in-Ok.is).1.kept.room
 
 pub answer-requires : goal.answer-requires
-answer-requires c = fed _ _ _ _ c.read_all.ensures.1 c.in-Fed.is
+answer-requires c = fed _ _ _ _ c.read_all.ensures.1 c.in-Ok.is

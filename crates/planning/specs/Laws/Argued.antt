@@ -2,15 +2,13 @@
 -- Assumes nothing.
 use Rattle.std.specs.Prelude.{ℕ, ◌≡◌, refl, Bool, true, false, List}
 use Rattle.std.proofs.Common.{sym, ◌∙◌, ap}
-use Rattle.std.proofs.Math.Option.{Option, none, some}
+use Rattle.std.proofs.Math.Option.{Option, none}
 use Rattle.meaning.specs.Refusals.{Refusal, Answer, done, refused, ◌then◌}
-use Rattle.frames.specs.Order.{blame_answer}
+use Rattle.kinds.specs.Answers.{refusal_of, blame_of}
 use Rattle.plans.specs.Plan.{is_plan}
 use Rattle.plans.specs.Columns.{fits}
 use Rattle.planning.specs.Planning.{argued}
-use Rattle.planning.specs.Answers.{unplanned_says}
-use Rattle.planning.specs.declared.answer.Unplanned.{Unplanned}
-use Rattle.planning.specs.declared.answer.Unplanned.TheVariants as why
+use Rattle.planning.specs.Answers.{Unplanned, unplanned_says}
 
 module _ (b : List ℕ) (own : Bool) where
   pub no-plan : is_plan b ≡ false → argued b own ≡ refused Refusal.malformed none
@@ -43,17 +41,7 @@ pub record Reason (u : Unplanned) : Type 1 where
   pub says : (A : Type 0) → unplanned_says {A = A} u ≡ refused refusal blame
 
 pub reason : (u : Unplanned) → Reason u
-reason (why.Malformed b) = record { refusal = Refusal.malformed; blame = blame_answer b; says = λ A. refl }
-reason (why.Limit b) = record { refusal = Refusal.full; blame = blame_answer b; says = λ A. refl }
-reason why.IllFormed = record { refusal = Refusal.malformed; blame = none; says = λ A. refl }
-reason why.TooManyRecords = record { refusal = Refusal.full; blame = none; says = λ A. refl }
-reason (why.ChildCount i) = record { refusal = Refusal.child_count; blame = some i; says = λ A. refl }
-reason (why.NotThere i) = record { refusal = Refusal.not_there; blame = some i; says = λ A. refl }
-reason why.Lost = record { refusal = Refusal.not_there; blame = none; says = λ A. refl }
-reason (why.Cycle i) = record { refusal = Refusal.cycle; blame = some i; says = λ A. refl }
-reason why.BitCounts = record { refusal = Refusal.bits; blame = none; says = λ A. refl }
-reason why.CountsDisagree = record { refusal = Refusal.counts; blame = none; says = λ A. refl }
-reason why.NoDimension = record { refusal = Refusal.no_dimension; blame = none; says = λ A. refl }
+reason u = record { refusal = refusal_of u.refusal; blame = blame_of u.node; says = λ A. refl }
 
 -- what follows it is not asked
 pub unplanned-then : {A B : Type 0} (u : Unplanned) (f : A → Answer B) → (unplanned_says u then f) ≡ unplanned_says u

@@ -1,6 +1,6 @@
 -- From what `plan_frames` gives to a plan that is drawn up, or to why there is none.
 -- Assumes nothing.
-use Rattle.std.specs.Prelude.{ℕ, ◌≡◌, refl, Bool, true, false, List}
+use Rattle.std.specs.Prelude.{ℕ, ◌≡◌, refl, Bool, true, false, List, Ok, Err}
 use Rattle.std.proofs.Common.{sym, ◌∙◌, ap, subst}
 use Rattle.std.proofs.Math.Option.{Option, none}
 use Rattle.meaning.specs.Refusals.{Refusal, Answer, done, refused, ◌then◌}
@@ -14,12 +14,9 @@ use Rattle.pool.specs.Laws.Tabled.{expression-count}
 use Rattle.plans.specs.Agreement.{names_there, bits_good}
 use Rattle.map_records.specs.Mapping.{Mapping, mapped}
 use Rattle.planning.specs.Planning.{columned, argued, Planned, planned, Judged, Plans}
-use Rattle.planning.specs.Answers.{unplanned_says, Told, FramesGiven}
+use Rattle.planning.specs.Answers.{Unplanned, Planning, unplanned_says, Told, FramesGiven}
 use Rattle.planning.specs.Drawn.{Drawn}
-use Rattle.planning.specs.declared.answer.Unplanned.{Unplanned}
 use Rattle.planning.specs.declared.answer.Plan.{Plan}
-use Rattle.planning.specs.declared.answer.Planning.{Planning}
-use Rattle.planning.specs.declared.answer.Planning.TheVariants as planning
 
 -- ---- where there is a plan, its bits were in their range
 
@@ -61,11 +58,11 @@ module _ {s b : List ℕ} {own : Bool} {w x ss ds cs : List ℕ} {r : Planning} 
   pool_in = tabled (Tabling w g.literals x g.node_count g.expression_count)
 
   -- NO PLAN
-  pub unplanned : {u : Unplanned} → r ≡ planning.Refused u → g.answer ≡ unplanned_says u
+  pub unplanned : {u : Unplanned} → r ≡ Err u → g.answer ≡ unplanned_says u
   unplanned q = subst Tells q g.told
 
-  module _ {k : Plan} (q : r ≡ planning.Planned k) where
-    told : Tells (planning.Planned k)
+  module _ {k : Plan} (q : r ≡ Ok k) where
+    told : Tells (Ok k)
     told = subst Tells q g.told
 
     -- A PLAN

@@ -1,6 +1,6 @@
 -- Laws of the query code's walk: what each way through the code answers.
 -- Assumes nothing.
-use Rattle.std.specs.Prelude.{ℕ, ◌/◌, ◌%◌, ◌<◌, ◌≤◌, Bool, cond, List, eqb, leb}
+use Rattle.std.specs.Prelude.{ℕ, ◌/◌, ◌%◌, ◌<◌, ◌≤◌, Bool, cond, List, eqb, leb, Result, Ok, Err}
 use Rattle.std.proofs.Math.Path.{◌≡◌, refl, sym, ap}
 use Rattle.std.proofs.Common.{◌∙◌, arith, eq-eqb, ne_eqb, le-leb}
 use Rattle.std.proofs.Math.Bool.{true, false}
@@ -14,8 +14,11 @@ use Rattle.lent_lists.specs.Laws.Walks.{Met, walk-met, is-not-there, is-no-rule}
 use Rattle.lent_lists.specs.Laws.Verdicts.{no-refusal}
 use Rattle.query_fixing.specs.QueryCode.{tree_for, tree_kind, tree_position, tree_dim, has_tree, treed_reference, tree_reference, query_verdict, queried_after}
 use Rattle.query_fixing.specs.QueryAnswers.{Says, QueryCodeIs}
-use Rattle.query_fixing.specs.declared.fix_query_code.Queried.{Queried}
-use Rattle.query_fixing.specs.declared.fix_query_code.Queried.TheVariants as queried
+use Rattle.kinds.specs.AnswerLaws.{refusal_same, refusal-some}
+use Rattle.kinds.specs.Answers.{refusal_of}
+use Rattle.kinds.specs.declared.refusal.Refusal as codes
+use Rattle.kinds.specs.declared.refusal.Refusal.TheVariants as code
+use Rattle.meaning.specs.Refusals.{number}
 
 pub low-kind : (tree : ℕ) → tree / 0x100000000 < kind.tree1 → false ≡ has_tree tree
 unfolding has_tree tree_kind
@@ -68,7 +71,7 @@ module _ (trees : List ℕ) where
     abbrev v : Verdict
     v = walked (record_verdict (treed_reference trees)) (segment_in first i last)
 
-    unchanged : (w : Verdict) (r : Queried) → query_verdict trees first i last ≡ w → (w ≡ fine → ⊥) → Says w r → QueryCodeIs trees first i last first i last r
+    unchanged : (w : Verdict) (r : Result Unit codes.Refusal) → query_verdict trees first i last ≡ w → (w ≡ fine → ⊥) → Says w r → QueryCodeIs trees first i last first i last r
     unfolding queried_after
     unchanged fine r e h k = absurd (h refl)
     unchanged malformed r e h k = record { answer = rw e k; first_is = rw e; i_is = rw e; last_is = rw e }
@@ -76,11 +79,11 @@ module _ (trees : List ℕ) where
     unchanged no_rule r e h k = record { answer = rw e k; first_is = rw e; i_is = rw e; last_is = rw e }
     unchanged full r e h k = absurd k
 
-    pub query-malformed : g ≡ false → QueryCodeIs trees first i last first i last queried.Malformed
+    pub query-malformed : g ≡ false → QueryCodeIs trees first i last first i last (Err code.Malformed)
     unfolding query_verdict
     query-malformed h =
         let z : good_lists first i last ≡ false = sym eg ∙ h in
-        unchanged malformed queried.Malformed (rw z) (λ q. let y : ◌≡◌ {A = ℕ} 1 0 = ap verdict_no q in omega arith) refl
+        unchanged malformed (Err code.Malformed) (rw z) (λ q. let y : ◌≡◌ {A = ℕ} 1 0 = ap verdict_no q in omega arith) refl
 
     module _ (h : g ≡ true) (n : ℕ) (en : n ≡ verdict_no (walked (record_verdict (treed_reference trees)) (segment_in first i last))) where
       verdict-is : query_verdict trees first i last ≡ v
@@ -89,26 +92,37 @@ module _ (trees : List ℕ) where
           let z : good_lists first i last ≡ true = sym eg ∙ h in
           rw z
 
-      pub query-not-there : n ≡ 3 → QueryCodeIs trees first i last first i last queried.NotThere
+      pub query-not-there : n ≡ 3 → QueryCodeIs trees first i last first i last (Err code.NotThere)
       query-not-there k =
           let q : v ≡ not_there = is-not-there v (sym en ∙ k) in
-          unchanged not_there queried.NotThere (verdict-is ∙ q) (λ q. let y : ◌≡◌ {A = ℕ} 3 0 = ap verdict_no q in omega arith) refl
+          unchanged not_there (Err code.NotThere) (verdict-is ∙ q) (λ q. let y : ◌≡◌ {A = ℕ} 3 0 = ap verdict_no q in omega arith) refl
 
-      pub query-no-rule : (n ≡ 3 → ⊥) → (n ≡ 0 → ⊥) → QueryCodeIs trees first i last first i last queried.NoRule
+      pub query-no-rule : (n ≡ 3 → ⊥) → (n ≡ 0 → ⊥) → QueryCodeIs trees first i last first i last (Err code.NoRule)
       query-no-rule b c =
           let q : v ≡ no_rule = is-no-rule v (walk-met (treed_reference trees) reference-met (segment_in first i last)) (λ z. b (en ∙ z)) (λ z. c (en ∙ z)) in
-          unchanged no_rule queried.NoRule (verdict-is ∙ q) (λ q. let y : ◌≡◌ {A = ℕ} 10 0 = ap verdict_no q in omega arith) refl
+          unchanged no_rule (Err code.NoRule) (verdict-is ∙ q) (λ q. let y : ◌≡◌ {A = ℕ} 10 0 = ap verdict_no q in omega arith) refl
+
+      -- what the walk refuses
+      pub query-refused : (w : codes.Refusal) → n ≡ number (refusal_of w) → QueryCodeIs trees first i last first i last (Err w)
+      query-refused w k = by v refl (walk-met (treed_reference trees) reference-met (segment_in first i last)) (sym k ∙ en)
+        where
+          by : (x : Verdict) → v ≡ x → Met x → number (refusal_of w) ≡ verdict_no x → QueryCodeIs trees first i last first i last (Err w)
+          by fine q m e = absurd (refusal-some (refusal_of w) e)
+          by malformed q m e = absurd m
+          by not_there q m e = unchanged not_there (Err w) (verdict-is ∙ q) (λ z. let y : ◌≡◌ {A = ℕ} 3 0 = ap verdict_no z in omega arith) (ap Err (refusal_same w code.NotThere e))
+          by no_rule q m e = unchanged no_rule (Err w) (verdict-is ∙ q) (λ z. let y : ◌≡◌ {A = ℕ} 10 0 = ap verdict_no z in omega arith) (ap Err (refusal_same w code.NoRule e))
+          by full q m e = absurd m
 
       pub query-done :
           n ≡ 0 → (first' i' last' : List ℕ) → first' ≡ rewritten (record_by (tree_reference trees)) first → i' ≡ rewritten (record_by (tree_reference trees)) i →
-          last' ≡ rewritten (record_by (tree_reference trees)) last → QueryCodeIs trees first i last first' i' last' queried.Done
+          last' ≡ rewritten (record_by (tree_reference trees)) last → QueryCodeIs trees first i last first' i' last' (Ok tt)
       unfolding queried_after
       query-done k first' i' last' ef ei el =
           let q : query_verdict trees first i last ≡ fine = verdict-is ∙ no-refusal v (sym en ∙ k) in
           record { answer = rw q; first_is = ef ∙ rw q; i_is = ei ∙ rw q; last_is = el ∙ rw q }
 
 -- ONLY ONE OUTCOME FITS
-one_answer : (w : Verdict) (r r' : Queried) → Says w r → Says w r' → r ≡ r'
+one_answer : (w : Verdict) (r r' : Result Unit codes.Refusal) → Says w r → Says w r' → r ≡ r'
 one_answer fine r r' h k = h ∙ sym k
 one_answer malformed r r' h k = h ∙ sym k
 one_answer not_there r r' h k = h ∙ sym k
@@ -116,7 +130,7 @@ one_answer no_rule r r' h k = h ∙ sym k
 one_answer full r r' h k = absurd h
 
 pub one-query-outcome :
-    (trees first i last a b c a' b' c' : List ℕ) (r r' : Queried) → QueryCodeIs trees first i last a b c r → QueryCodeIs trees first i last a' b' c' r' →
+    (trees first i last a b c a' b' c' : List ℕ) (r r' : Result Unit codes.Refusal) → QueryCodeIs trees first i last a b c r → QueryCodeIs trees first i last a' b' c' r' →
     (r ≡ r') × (a ≡ a') × (b ≡ b') × (c ≡ c')
 one-query-outcome trees first i last a b c a' b' c' r r' x y =
     (one_answer (query_verdict trees first i last) r r' x.answer y.answer, x.first_is ∙ sym y.first_is, x.i_is ∙ sym y.i_is, x.last_is ∙ sym y.last_is)

@@ -13,13 +13,9 @@ use Rattle.sections.specs.Sections.{section_count, width_count, record_limit, Ma
 use Rattle.sections.specs.Groups.{count_to_read}
 use Rattle.sections.proofs.Laws.Maps.{known-append, known-one, read-front}
 use Rattle.records.specs.declared.PolType.{PolType}
-use Rattle.records.specs.Columns.{bad_after, formed, refusal_no, accepted_count, ColumnsMapped, alone, mapped}
+use Rattle.records.specs.Columns.{bad_in, bad_after, formed, refusal_no, accepted_count, ColumnsMapped, alone, mapped}
 use Rattle.records.specs.Records.{sections_of, dims_of, positions_of, records_mapping, RecordsMapped}
 use Rattle.records.specs.Laws.Lists.{upto, upto_all, fill_to, fill-all, length-sections, length-dims, length-positions}
-
--- 0 where the sections are known, else 1
-abbrev pub bad_in : List ℕ → ℕ
-bad_in ss = cond (known ss) 0 1
 
 pub bad-begin : (ss : List ℕ) → 0 ≡ bad_in (take 0 ss)
 unfolding known
@@ -48,7 +44,7 @@ module _ (xs : List PolType) (ss₀ ds₀ ps₀ ws₀ : List ℕ) where
   refuses bad = refusal_no bad n (length ss₀) (length ds₀) (length ps₀) (length ws₀)
 
   -- refused by the lengths and the sections, or mapped
-  data Way (bad : ℕ) : Type 0 where
+  pub data Way (bad : ℕ) : Type 0 where
     stops : (refuses bad ≡ 0 → ⊥) → (r : Refusal) → m ≡ refused r none → refuses bad ≡ answer_no m → Way bad
     goes : refuses bad ≡ 0 → length ss₀ ≡ n → length ds₀ ≡ n → length ps₀ ≡ n → (x : Mapping) → mapping (sections_of xs) (dims_of xs) (positions_of xs) (length ws₀) ≡ done x → m ≡ done x → Way bad
 
@@ -100,7 +96,7 @@ module _ (xs : List PolType) (ss₀ ds₀ ps₀ ws₀ : List ℕ) where
         (record { positions = positions_from (sections_of xs) (dims_of xs) (positions_of xs); widths = widths (sections_of xs) (dims_of xs) })
         (rw (w, length-sections xs, l)) (rw (a, b, c, w, length-sections xs, l))
 
-    ways : Way bad
+    pub ways : Way bad
     ways = way (known (take (count_to_read n) (sections_of xs))) (eqb (length ss₀) n) (eqb (length ds₀) n) (eqb (length ps₀) n) (eqb (length ws₀) width_count) (leb n record_limit) refl refl refl refl refl refl
 
     module _ (k : ℕ) (counts : k ≡ accepted_count bad n (length ss₀) (length ds₀) (length ps₀) (length ws₀)) where

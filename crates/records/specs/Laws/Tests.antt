@@ -1,12 +1,12 @@
 -- What is refused: each way through the code.
 -- Assumes nothing.
-use Rattle.std.specs.Prelude.{ℕ, ◌≤◌, ◌<◌, ◌≡◌, refl, List, length}
+use Rattle.std.specs.Prelude.{ℕ, ◌≤◌, ◌<◌, ◌≡◌, refl, List, length, Result}
 use Rattle.std.proofs.Math.Path.{sym}
 use Rattle.std.proofs.Common.{◌∙◌}
 use borrow.Author.Tests.{eq-eqb, ne_eqb, le-leb, lt-leb, lt-ltb, le-ltb}
 use Rattle.sections.specs.Sections.{section_count, width_count, record_limit}
 use Rattle.sections.specs.Answer.{mapped_no, MappedIs}
-use Rattle.sections.specs.declared.map_section.Mapped.{Mapped}
+use Rattle.kinds.specs.declared.refusal.Refusal.{Refusal}
 use Rattle.records.specs.Columns.{bad_after, formed, refusal_no, accepted_count, ColumnsMapped, alone, mapped}
 
 pub bad-known : (bad s : ℕ) → s < section_count → bad ≡ bad_after bad s
@@ -63,5 +63,5 @@ pub left_alone : (bad n : ℕ) (ss ds ps ws : List ℕ) (num : ℕ) → num ≡ 
 left_alone bad n ss ds ps ws num e z = alone e z refl refl
 
 pub columns-mapped : (bad n : ℕ) (ss ds ps ps' ws ws' : List ℕ) (num : ℕ) → num ≡ refusal_no bad n (length ss) (length ds) (length ps) (length ws) → num ≡ 0
-    → (r : Mapped) → MappedIs ss ds ps ps' ws ws' r → (m : ℕ) → m ≡ mapped_no r → ColumnsMapped bad n ss ds ps ps' ws ws' m
+    → (r : Result Unit Refusal) → MappedIs ss ds ps ps' ws ws' r → (m : ℕ) → m ≡ mapped_no r → ColumnsMapped bad n ss ds ps ps' ws ws' m
 columns-mapped bad n ss ds ps ps' ws ws' num e z r is m k = mapped (sym e ∙ z) (k ∙ is.says) is.positions is.widths

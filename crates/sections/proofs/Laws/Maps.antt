@@ -1,19 +1,22 @@
 -- The whole of `map_section`: each of its answers, from the tests that led there.
 -- Assumes nothing.
-use Rattle.std.specs.Prelude.{ℕ, zero, suc, ◌+◌, ◌*◌, ◌≤◌, ◌<◌, ◌≡◌, Bool, true, false, cond, ◌&&◌, List, [], ◌∷◌, ◌++◌, length, get_or, take, drop, leb, ltb}
+use Rattle.std.specs.Prelude.{ℕ, zero, suc, ◌+◌, ◌*◌, ◌≤◌, ◌<◌, ◌≡◌, Bool, true, false, cond, ◌&&◌, List, [], ◌∷◌, ◌++◌, length, get_or, take, drop, leb, ltb, min, Ok, Err}
 use Rattle.std.proofs.Math.Path.{refl, ap}
 use Rattle.std.proofs.Common.{sym, ◌∙◌, append-nil, arith, add-one, take-append-drop, drop_of_length-le, take-suc, take_all, take-take}
 use Rattle.std.proofs.Math.Option.{none}
+use Rattle.std.specs.List.{list_all}
 use borrow.Author.Tests.{leb-true, leb-false, le-leb, lt-leb, lt-ltb, le-ltb, ltb-true, eq-eqb, ne_eqb}
 use Rattle.kinds.specs.Write.{write, write-is, write-next}
-use Rattle.meaning.specs.Refusals.{Refusal, number, done, refused}
+use Rattle.meaning.specs.Refusals.{done, refused}
 use Rattle.sections.specs.Sums.{each}
 use Rattle.sections.specs.Sections.{section_count, width_count, record_limit, known, well_formed, mapping, positions_from, widths, first_width, whole_width, third_width}
 use Rattle.sections.specs.Groups.{Records, Tallied, width_in, count_to_read}
-use Rattle.sections.specs.Answer.{mapped_no, Written, MappedIs}
+use Rattle.kinds.specs.Answers.{refusal_of}
+use Rattle.kinds.specs.declared.refusal.Refusal as codes
+use Rattle.kinds.specs.declared.refusal.Refusal.TheVariants as code
+use Rattle.sections.specs.Answer.{Written, MappedIs}
 use Rattle.sections.proofs.Laws.Tables.{width-first, width-whole, width-third}
-use Rattle.sections.specs.declared.map_section.Mapped.{Mapped}
-use Rattle.sections.specs.declared.map_section.Mapped.TheVariants as answer
+use Rattle.sections.specs.declared.groups.Width.TheVariants as width
 
 -- ---- are the sections known?
 
@@ -30,6 +33,11 @@ pub known-one : (x : ℕ) (b : Bool) → ltb x section_count ≡ b → known (x 
 unfolding known
 known-one x true e = rw e
 known-one x false e = rw e
+
+pub known-is-all : (ss : List ℕ) → list_all (λ s. ltb s section_count) ss ≡ known ss
+unfolding known
+known-is-all [] = refl
+known-is-all (s ∷ ss) = rw (known-is-all ss)
 
 pub known-begin : (ss : List ℕ) → known (take 0 ss) ≡ true
 unfolding known
@@ -79,6 +87,19 @@ pub read-many : (n : ℕ) → record_limit < n → record_limit + 1 ≡ count_to
 unfolding count_to_read
 read-many n h = rw (lt-leb n record_limit h)
 
+pub read-least : (n c : ℕ) → c ≡ min n (record_limit + 1) → c ≡ count_to_read n
+read-least n c e = by (leb n record_limit) refl
+  where
+    by : (b : Bool) → leb n record_limit ≡ b → c ≡ count_to_read n
+    by true q =
+        let h : n ≤ record_limit = leb-true n record_limit q in
+        let z : c ≡ n = omega arith in
+        z ∙ read-few n h
+    by false q =
+        let h : record_limit < n = leb-false n record_limit q in
+        let z : c ≡ record_limit + 1 = omega arith in
+        z ∙ read-many n h
+
 pub read-within : (n c : ℕ) → c ≡ count_to_read n → c ≤ n
 unfolding count_to_read
 read-within n c e = rw e (by (leb n record_limit) refl)
@@ -107,14 +128,14 @@ module _ (ss ds gs : List ℕ) (t : Tallied ss ds (length ds) gs) where
       cc
 
   pub widths-all : (ws w₁ w₂ w₃ : List ℕ) → length ws ≡ width_count
-      → w₁ ≡ write ws 0 (each (width_in gs 0) section_count)
-      → w₂ ≡ write w₁ section_count (each (width_in gs 1) section_count)
-      → w₃ ≡ write w₂ (2 * section_count) (each (width_in gs 2) section_count)
+      → w₁ ≡ write ws 0 (each (width_in gs width.First) section_count)
+      → w₂ ≡ write w₁ section_count (each (width_in gs width.Whole) section_count)
+      → w₃ ≡ write w₂ (2 * section_count) (each (width_in gs width.Third) section_count)
       → w₃ ≡ widths ss ds
   widths-all ws w₁ w₂ w₃ l e₁ e₂ e₃ =
-      let a : each (width_in gs 0) section_count ≡ each (first_width ss ds) section_count = same _ _ section_count (width-first ss ds gs t) in
-      let b : each (width_in gs 1) section_count ≡ each (whole_width ss ds) section_count = same _ _ section_count (width-whole ss ds gs t) in
-      let c : each (width_in gs 2) section_count ≡ each (third_width ss ds) section_count = same _ _ section_count (width-third ss ds gs t) in
+      let a : each (width_in gs width.First) section_count ≡ each (first_width ss ds) section_count = same _ _ section_count (width-first ss ds gs t) in
+      let b : each (width_in gs width.Whole) section_count ≡ each (whole_width ss ds) section_count = same _ _ section_count (width-whole ss ds gs t) in
+      let c : each (width_in gs width.Third) section_count ≡ each (third_width ss ds) section_count = same _ _ section_count (width-third ss ds gs t) in
       let n₂ : w₂ ≡ write ws 0 (each (first_width ss ds) section_count ++ each (whole_width ss ds) section_count)
       = write-next ws 0 _ _ section_count (rw a at e₁) (rw b at e₂) refl in
       let n₃ : w₃ ≡ write ws 0 ((each (first_width ss ds) section_count ++ each (whole_width ss ds) section_count) ++ each (third_width ss ds) section_count)
@@ -127,22 +148,22 @@ module _ (ss ds gs : List ℕ) (t : Tallied ss ds (length ds) gs) where
 -- ---- the answers
 
 module _ (ss ds ps ws : List ℕ) where
-  refuses : (r : Mapped) (e : Refusal) → mapping ss ds ps (length ws) ≡ refused e none → mapped_no r ≡ number e → MappedIs ss ds ps ps ws ws r
-  refuses r e h n = record { says = n ∙ rw h; positions = rw h; widths = rw h }
+  refuses : (r : codes.Refusal) → mapping ss ds ps (length ws) ≡ refused (refusal_of r) none → MappedIs ss ds ps ps ws ws (Err r)
+  refuses r h = record { says = rw h; positions = rw h; widths = rw h }
 
-  ill : well_formed ss ds ps (length ws) ≡ false → MappedIs ss ds ps ps ws ws answer.Malformed
+  ill : well_formed ss ds ps (length ws) ≡ false → MappedIs ss ds ps ps ws ws (Err code.Malformed)
   unfolding mapping
-  ill h = refuses answer.Malformed Refusal.malformed (rw h) refl
+  ill h = refuses code.Malformed (rw h)
 
-  pub ill-dims : (length ds ≡ length ss → ⊥) → MappedIs ss ds ps ps ws ws answer.Malformed
+  pub ill-dims : (length ds ≡ length ss → ⊥) → MappedIs ss ds ps ps ws ws (Err code.Malformed)
   unfolding well_formed
   ill-dims h = ill (rw (ne_eqb (length ds) (length ss) h))
 
-  pub ill-positions : length ds ≡ length ss → (length ps ≡ length ss → ⊥) → MappedIs ss ds ps ps ws ws answer.Malformed
+  pub ill-positions : length ds ≡ length ss → (length ps ≡ length ss → ⊥) → MappedIs ss ds ps ps ws ws (Err code.Malformed)
   unfolding well_formed
   ill-positions d h = ill (rw (eq-eqb (length ds) (length ss) d, ne_eqb (length ps) (length ss) h))
 
-  pub ill-widths : length ds ≡ length ss → length ps ≡ length ss → (length ws ≡ width_count → ⊥) → MappedIs ss ds ps ps ws ws answer.Malformed
+  pub ill-widths : length ds ≡ length ss → length ps ≡ length ss → (length ws ≡ width_count → ⊥) → MappedIs ss ds ps ps ws ws (Err code.Malformed)
   unfolding well_formed
   ill-widths d p h = ill (rw (eq-eqb (length ds) (length ss) d, eq-eqb (length ps) (length ss) p, ne_eqb (length ws) width_count h))
 
@@ -151,12 +172,12 @@ module _ (ss ds ps ws : List ℕ) where
     unfolding well_formed
     formed = rw (eq-eqb (length ds) (length ss) d, eq-eqb (length ps) (length ss) p, eq-eqb (length ws) width_count w) (sym (k ∙ ap known (read-front ss c n)))
 
-    pub ill-known : b ≡ false → MappedIs ss ds ps ps ws ws answer.Malformed
+    pub ill-known : b ≡ false → MappedIs ss ds ps ps ws ws (Err code.Malformed)
     ill-known e = ill (formed ∙ e)
 
-    pub too_many_lem : b ≡ true → record_limit < length ss → MappedIs ss ds ps ps ws ws answer.Full
+    pub too_many_lem : b ≡ true → record_limit < length ss → MappedIs ss ds ps ps ws ws (Err code.Full)
     unfolding mapping
-    too_many_lem e h = refuses answer.Full Refusal.full (rw (formed ∙ e, lt-leb (length ss) record_limit h)) refl
+    too_many_lem e h = refuses code.Full (rw (formed ∙ e, lt-leb (length ss) record_limit h))
 
     pub records_are : b ≡ true → length ss ≤ record_limit → Records ss ds
     records_are e h = record {
@@ -165,7 +186,7 @@ module _ (ss ds ps ws : List ℕ) where
       known = known_at ss (sym (ap known (take_all c ss (omega (arith, n ∙ sym (read-few (length ss) h))))) ∙ sym k ∙ e);
     }
 
-    pub mapped : b ≡ true → length ss ≤ record_limit → (ps' ws' : List ℕ) → Written ss ds ps ps' ws' → MappedIs ss ds ps ps' ws ws' answer.Done
+    pub mapped : b ≡ true → length ss ≤ record_limit → (ps' ws' : List ℕ) → Written ss ds ps ps' ws' → MappedIs ss ds ps ps' ws ws' (Ok tt)
     unfolding mapping
     mapped e h ps' ws' x = record { says = rw is; positions = rw is x.positions; widths = rw is x.widths }
       where

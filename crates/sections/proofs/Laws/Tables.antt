@@ -9,6 +9,8 @@ use Rattle.kinds.specs.Write.{write, write-append}
 use Rattle.sections.specs.Sums.{each, each-length, each_at}
 use Rattle.sections.specs.Sections.{section_count, record_limit, position_of, positions_from, first_width, whole_width, third_width}
 use Rattle.sections.specs.Groups.{group_count, group_at, Records, taken, Tallied, Small, added, next_in, width_in}
+use Rattle.sections.specs.declared.groups.Width.{Width}
+use Rattle.sections.specs.declared.groups.Width.TheVariants as width
 use Rattle.sections.proofs.Laws.Placing.{before-first, before-second, before-third, first_is, whole_is, third-is, taken-small, position_none, position_more, position_at}
 
 -- ---- the table holds what the records before i take
@@ -137,16 +139,13 @@ place_end ss ds ps i now w h =
 -- ---- the widths
 
 module _ (ss ds gs : List ℕ) (t : Tallied ss ds (length ds) gs) where
-  pub width-first : (s : ℕ) → s < section_count → width_in gs 0 s ≡ first_width ss ds s
-  unfolding width_in
+  pub width-first : (s : ℕ) → s < section_count → width_in gs width.First s ≡ first_width ss ds s
   width-first s h = t.holds s 1 h (omega arith) ∙ sym (first_is ss ds s)
 
-  pub width-whole : (s : ℕ) → s < section_count → width_in gs 1 s ≡ whole_width ss ds s
-  unfolding width_in
+  pub width-whole : (s : ℕ) → s < section_count → width_in gs width.Whole s ≡ whole_width ss ds s
   width-whole s h = rw (t.holds s 1 h (omega arith), t.holds s 2 h (omega arith), t.holds s 3 h (omega arith)) (sym (whole_is ss ds s))
 
-  pub width-third : (s : ℕ) → s < section_count → width_in gs 2 s ≡ third_width ss ds s
-  unfolding width_in
+  pub width-third : (s : ℕ) → s < section_count → width_in gs width.Third s ≡ third_width ss ds s
   width-third s h = rw (t.holds s 2 h (omega arith), t.holds s 3 h (omega arith)) (sym (third-is ss ds s))
 
 -- one width more
@@ -185,18 +184,20 @@ module _ (all gone : List ℕ) (s d old : ℕ) where
   unfolding next_in
   next-none a b c = simp (ne_eqb d 1 a, ne_eqb d 2 b, ne_eqb d 3 c)
 
-module _ (gs : List ℕ) (which s n m k : ℕ) (q : n ≡ group_at s 1) (r : m ≡ group_at s 2) (z : k ≡ group_at s 3) where
-  pub width-is-first : which ≡ 0 → get_or gs n 0 ≡ width_in gs which s
-  unfolding width_in
+module _ (gs : List ℕ) (which : Width) (s n m k : ℕ) (q : n ≡ group_at s 1) (r : m ≡ group_at s 2) (z : k ≡ group_at s 3) where
+  pub width-is-first : which ≡ width.First → get_or gs n 0 ≡ width_in gs which s
   width-is-first e = rw (e, q)
 
-  pub width-is-whole : which ≡ 1 → get_or gs n 0 + get_or gs m 0 + get_or gs k 0 ≡ width_in gs which s
-  unfolding width_in
+  pub width-is-whole : which ≡ width.Whole → get_or gs n 0 + get_or gs m 0 + get_or gs k 0 ≡ width_in gs which s
   width-is-whole e = rw (e, q, r, z)
 
-  pub width-is-third : (which ≡ 0 → ⊥) → (which ≡ 1 → ⊥) → (get_or gs m 0 + get_or gs k 0) / 3 ≡ width_in gs which s
-  unfolding width_in
-  width-is-third a b = rw (r, z) (simp (ne_eqb which 0 a, ne_eqb which 1 b))
+  pub width-is-third : (which ≡ width.First → ⊥) → (which ≡ width.Whole → ⊥) → (get_or gs m 0 + get_or gs k 0) / 3 ≡ width_in gs which s
+  width-is-third a b = rw (r, z) (by which a b)
+    where
+      by : (w : Width) → (w ≡ width.First → ⊥) → (w ≡ width.Whole → ⊥) → (get_or gs (group_at s 2) 0 + get_or gs (group_at s 3) 0) / 3 ≡ width_in gs w s
+      by width.First a b = absurd (a refl)
+      by width.Whole a b = absurd (b refl)
+      by width.Third a b = refl
 
 pub tally-end : (ss ds : List ℕ) (i : ℕ) (gs : List ℕ) → Tallied ss ds i gs → i ≤ length ds → length ds ≤ i → Tallied ss ds (length ds) gs
 tally-end ss ds i gs t h g = let e : i ≡ length ds = omega arith in rw e at t

@@ -1,10 +1,11 @@
 -- The dimensions of sources as they are read from a record: each way through the code, and what they say of the step.
 -- Assumes nothing.
 use Prim.Native.Nat.{ℕ, zero, suc, max, ◌+◌, ◌*◌, ◌≤◌, ◌<◌}
-use Rattle.std.specs.Prelude.{◌≡◌, refl, Bool, true, false, List, [], ◌∷◌, ◌⊎◌, length, get_or, set, eqb}
+use Rattle.std.specs.Prelude.{◌≡◌, refl, Bool, true, false, List, [], ◌∷◌, ◌⊎◌, length, get_or, set, eqb, Option, Some, None}
 use Rattle.std.proofs.Common.{sym, ◌∙◌, inl, inr, eq-or-lt_of_le, add-one}
 use Rattle.std.proofs.Math.Path.{ap}
 use native.Mathlib.Omega.{arith}
+use Rattle.std.specs.Option.{unwrap_or}
 use borrow.Author.Tests.{eq-eqb, ne_eqb, lt-ltb, le-ltb, eqb-true}
 use Rattle.kinds.specs.KindBytes as kind
 use Rattle.kinds.specs.KindLaws.{sources-small}
@@ -16,7 +17,7 @@ use Rattle.kinds.specs.declared.step.Step.{Step}
 use Rattle.meaning.specs.Refusals.{Answer, done, refused}
 use Rattle.step_dimensions.specs.Rules.{is_destination}
 use Rattle.step_dimensions.specs.StepDimensions.{Given, positive, written, through, source_dim, source_dims, largest, sized, sized_step, step_with, noted}
-use Rattle.step_dimensions.specs.Known.{dim_of, noted_at, known_dim, known_at, most_of, AllKnown, MostIs, Sizes}
+use Rattle.step_dimensions.specs.Known.{dim_of, known, noted_at, known_dim, known_at, most_of, AllKnown, MostIs, Sizes, StepDimIs}
 
 -- ---- a source
 
@@ -51,26 +52,42 @@ module _ (dims numbers : List ℕ) (id : ℕ) where
 pub known_as : (g : Given) (ts : List ℕ) (r : Reference) (d : ℕ) (a : Answer ℕ) → d ≡ dim_of a → a ≡ source_dim g ts r → d ≡ known_dim g ts r
 known_as g ts r d a e f = e ∙ ap dim_of f
 
-known-done : (a : Answer ℕ) → (dim_of a ≡ 0 → ⊥) → a ≡ done (dim_of a)
-known-done (done d) h = refl
-known-done (refused r n) h = absurd (h refl)
+-- the same where it has one
+pub known-by : (g : Given) (ts : List ℕ) (r : Reference) (d : Option ℕ) (a : Answer ℕ) → d ≡ known a → a ≡ source_dim g ts r → d ≡ known (source_dim g ts r)
+known-by g ts r d a e f = e ∙ ap known f
+
+pub known-done : (a : Answer ℕ) (d : ℕ) → Some d ≡ known a → a ≡ done d
+known-done (done x) d e = let z : d ≡ x = cc in rw z
+known-done (refused r n) d e = absurd (let z : ◌≡◌ {A = ℕ} 0 1 = cc in omega arith)
+
+pub known-none : (a : Answer ℕ) → None ≡ known a → 0 ≡ dim_of a
+known-none (done x) e = absurd (let z : ◌≡◌ {A = ℕ} 0 1 = cc in omega arith)
+known-none (refused r n) e = refl
+
+-- its number, or 0
+pub known-or : (a : Answer ℕ) (o : Option ℕ) → o ≡ known a → unwrap_or o 0 ≡ dim_of a
+known-or (done x) o e = rw e
+known-or (refused r n) o e = rw e
 
 -- ---- the largest
 
 module _ (g : Given) (ts l : List ℕ) (at : ℕ) where
   pub most-begin : AllKnown g ts l at 0 × (0 ≡ most_of g ts l at 0)
   unfolding AllKnown most_of
-  most-begin = (λ k h z. omega arith, refl)
+  most-begin = (λ k h. absurd (omega arith), refl)
 
   pub most-next :
-      (k m d n : ℕ) → AllKnown g ts l at k → m ≡ most_of g ts l at k → d ≡ known_at g ts l at k → (d ≡ 0 → ⊥) → n ≡ max m d
+      (k m d n : ℕ) → AllKnown g ts l at k → m ≡ most_of g ts l at k → source_dim g ts (ref_at l (at + 16 + 12 * k)) ≡ done d → n ≡ max m d
       → AllKnown g ts l at (k + 1) × (n ≡ most_of g ts l at (k + 1))
   unfolding AllKnown most_of
-  most-next k m d n all e f h q = (λ j i z. by (eq-or-lt_of_le {n = j} {m = k} (omega arith)) z, rw (add-one k) (q ∙ rw (e, f)))
+  most-next k m d n all e f q = (λ j i. by (eq-or-lt_of_le {n = j} {m = k} (omega arith)), rw (add-one k) (q ∙ rw (e, sym (ap dim_of f))))
     where
-      by : {j : ℕ} → (j ≡ k) ⊎ (j < k) → known_at g ts l at j ≡ 0 → ⊥
-      by (inl y) z = h (f ∙ ap (known_at g ts l at) (sym y) ∙ z)
-      by {j} (inr y) z = all j y z
+      here : source_dim g ts (ref_at l (at + 16 + 12 * k)) ≡ done (known_at g ts l at k)
+      here = rw (ap dim_of f) f
+
+      by : {j : ℕ} → (j ≡ k) ⊎ (j < k) → source_dim g ts (ref_at l (at + 16 + 12 * j)) ≡ done (known_at g ts l at j)
+      by (inl y) = rw y here
+      by {j} (inr y) = all j y
 
 -- of one, two and three, in either order
 pub most-one : (a : ℕ) → max a 0 ≡ max 0 a
@@ -120,11 +137,11 @@ module _ (g : Given) (ts l : List ℕ) (at : ℕ) where
   source : (n k i : ℕ) → at + 16 + 12 * k ≡ i → AllKnown g ts l at n → k < n → source_dim g ts (ref_at l i) ≡ done (known_at g ts l at k)
   unfolding AllKnown
   source n k i e all h =
-      let z : source_dim g ts (ref_at l (at + 16 + 12 * k)) ≡ done (known_at g ts l at k) = known-done (source_dim g ts (ref_at l (at + 16 + 12 * k))) (all k h) in
+      let z : source_dim g ts (ref_at l (at + 16 + 12 * k)) ≡ done (known_at g ts l at k) = all k h in
       ap (λ j. source_dim g ts (ref_at l j)) (sym e) ∙ z
 
   sizes-by :
-      (n : ℕ) → n ≤ 3 → sources_needed s.op ≡ n → n ≤ s.count → is_destination s.dest.kind ≡ true → AllKnown g ts l at n → (most_of g ts l at n ≡ 0 → ⊥)
+      (n : ℕ) → n ≤ 3 → sources_needed s.op ≡ n → n ≤ s.count → is_destination s.dest.kind ≡ true → AllKnown g ts l at n → (n ≡ 0 → ⊥)
       → Sizes g ts s (most_of g ts l at n)
   unfolding step_at most_of largest
   sizes-by zero h e c t all o = absurd (o refl)
@@ -157,11 +174,12 @@ module _ (g : Given) (ts l : List ℕ) (at : ℕ) where
   sizes-by (suc (suc (suc (suc n)))) h e c t all o = absurd (omega arith)
 
   pub sizes-known :
-      (n : ℕ) → n ≡ sources_needed s.op → n ≤ s.count → (t : Bool) → t ≡ is_destination s.dest.kind → t ≡ true → (r : ℕ) → MostIs g ts l at n r → (r ≡ 0 → ⊥) → Sizes g ts s r
-  sizes-known n e c t et ht r most h =
-      let m = most h in
+      (n : ℕ) → n ≡ sources_needed s.op → (n ≡ 0 → ⊥) → n ≤ s.count → (t : Bool) → t ≡ is_destination s.dest.kind → t ≡ true → (r : Option ℕ) → MostIs g ts l at n r
+      → StepDimIs g ts s r
+  sizes-known n e o c t et ht r most d z =
+      let m = most d z in
       let few : n ≤ 3 = rw e (sources-small s.op) in
-      rw m.1 (sizes-by n few (sym e) c (sym et ∙ ht) m.0 (λ z. h (m.1 ∙ z)))
+      rw m.1 (sizes-by n few (sym e) c (sym et ∙ ht) m.0 o)
 
 -- ---- a step noted
 
@@ -178,7 +196,8 @@ module _ (ts : List ℕ) (r : Reference) (d : ℕ) where
 
 -- the loop's end
 pub most-end :
-    (g : Given) (ts l : List ℕ) (at n k m : ℕ) → k ≤ n → n ≤ k → AllKnown g ts l at k × (m ≡ most_of g ts l at k) → MostIs g ts l at n m
-most-end g ts l at n k m a b h z =
+    (g : Given) (ts l : List ℕ) (at n k m : ℕ) → k ≤ n → n ≤ k → AllKnown g ts l at k × (m ≡ most_of g ts l at k) → MostIs g ts l at n (Some m)
+most-end g ts l at n k m a b h d q =
     let e : n ≡ k = omega arith in
-    rw e h
+    let f : d ≡ m = cc in
+    rw (e, f) h

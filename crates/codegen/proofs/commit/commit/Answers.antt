@@ -30,7 +30,7 @@ pub has_room-requires : goal.has_room-requires
 has_room-requires c = let P = c.requires in omega (arith, (sizes P.2 (c.size_all-steps.ensures P.0 P.1 P.2.jobs) c.blocks_of-blocks.ensures c.steps_of-at.ensures c.temporaries_of-t.ensures).1)
 
 pub returns-then-not-has_room : goal.returns-then-not-has_room
-returns-then-not-has_room c = λ b js a. code-full a (c.size_all-steps.ensures b js a.jobs) c.blocks_of-blocks.ensures c.steps_of-at.ensures c.temporaries_of-t.ensures (sym c.has_room.ensures ∙ c.if-not-has_room.true)
+returns-then-not-has_room c = λ b js a. rw c.into.ensures (code-full a (c.size_all-steps.ensures b js a.jobs) c.blocks_of-blocks.ensures c.steps_of-at.ensures c.temporaries_of-t.ensures (sym c.has_room.ensures ∙ c.if-not-has_room.true))
 
 pub place_all-requires : goal.place_all-requires
 place_all-requires c = let P = c.requires in (P.0, P.1, code-place P.2 (c.size_all-steps.ensures P.0 P.1 P.2.jobs) c.blocks_of-blocks.ensures c.steps_of-at.ensures c.temporaries_of-t.ensures)

@@ -1,17 +1,15 @@
 -- `codegen::serve::serve` meets its contract: each need is one lemma of proofs/Judges.antt.
 -- Assumes nothing.
+use Rattle.std.proofs.lemmas.Result.{err_from_is_err_and}
 use Rattle.requests.specs.Reads.{of-slice, whole-asked}
-use Rattle.codegen.proofs.Judges.{malformed-served, limit-served, read-served}
+use Rattle.codegen.proofs.Judges.{refused-served, read-served}
 use Rattle.codegen.proofs.serve.serve.Goals as goal
 
 pub serve_read-requires : goal.serve_read-requires
-serve_read-requires c = whole-asked (of-slice c.fill.ensures) c.in-Read.is
+serve_read-requires c = whole-asked (of-slice c.fill.ensures) c.in_ok-c.was
 
-pub returns-in-Malformed : goal.returns-in-Malformed
-returns-in-Malformed c = malformed-served (of-slice c.fill.ensures) _ _ _ c.in-Malformed.is
+pub returns : goal.returns
+returns c = read-served (of-slice c.fill.ensures) _ _ _ c.in_ok-c.was c.serve_read.ensures
 
-pub returns-in-Full : goal.returns-in-Full
-returns-in-Full c = limit-served (of-slice c.fill.ensures) _ _ _ c.in-Full.is
-
-pub returns-in-Read : goal.returns-in-Read
-returns-in-Read c = read-served (of-slice c.fill.ensures) _ _ _ c.in-Read.is c.serve_read.ensures
+pub returns-in_err-c : goal.returns-in_err-c
+returns-in_err-c c = let p = err_from_is_err_and c.from_residual.result c.from_residual.ensures.1 in rw (p.1, p.2) (refused-served (of-slice c.fill.ensures) _ _ _ c.in_err-c.was)

@@ -1,15 +1,9 @@
 -- `constraint_choice::admitted::extend_chosen` meets its contract: the members listed are those of the set. Assumes nothing.
 use Prim.Native.Nat.{ℕ}
 use lib.ListN.{length-replicate}
-use Rattle.constraint_frames.proofs.Listings.{listed_front, listed_room, listed_count}
+use Rattle.constraint_frames.proofs.Listings.{listed_front}
 use Rattle.constraint_choice.proofs.Founds.{extend_for, extend-gives}
 use Rattle.constraint_choice.proofs.admitted.extend_chosen.Goals as goal
-
-pub slice_bounds-members-end : goal.slice_bounds-members-end
-slice_bounds-members-end c = listed_room c.list_members-count.ensures (length-replicate {A = ℕ} 512 0)
-
-pub slice_bounds-extend-end : goal.slice_bounds-extend-end
-slice_bounds-extend-end c = listed_count c.list_members-count.ensures (length-replicate {A = ℕ} 512 0)
 
 pub extend-requires : goal.extend-requires
 extend-requires c = extend_for c.args.set.now c.args.k c.requires (listed_front c.list_members-count.ensures (length-replicate {A = ℕ} 512 0))

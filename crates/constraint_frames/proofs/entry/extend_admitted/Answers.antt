@@ -1,32 +1,33 @@
 -- `constraint_frames::entry::extend_admitted` meets its contract: each need is one lemma of proofs/Extending.antt. Assumes nothing.
 use Prim.Native.Nat.{◌<◌}
+use mathlib.Core.Path.{◌≡◌}
 use native.Mathlib.Omega.{arith}
-use Rattle.constraint_frames.proofs.Extending.{no_identity, lost, extend_asks, limits_full, counts_differ, pool_asks, numbers_asked, no_room, put}
+use Rattle.std.specs.Prelude.{Some, None}
+use Rattle.kinds.specs.declared.refusal.Refusal.TheVariants.{Full}
+use Rattle.std.proofs.lemmas.Result.{err_from_is_err_and}
+use Rattle.constraint_frames.proofs.Extending.{no_identity, lost, extend_asks, not-added, pool_asks, numbers_asked, no_room, put}
 use Rattle.constraint_frames.proofs.entry.extend_admitted.Goals as goal
 
-pub returns-then-identities-eq0 : goal.returns-then-identities-eq0
-returns-then-identities-eq0 c = let S = c in no_identity S.requires S.args.identities.now S.args.vc S.args.c S.args.out.now c.if-identities-eq0.true
+pub returns-then-is_empty : goal.returns-then-is_empty
+returns-then-is_empty c = let S = c in rw c.into.ensures (no_identity S.requires S.args.identities.now S.args.vc S.args.c S.args.out.now c.is_empty.ensures c.if-is_empty.true)
 
 pub returns-then-not-all_below : goal.returns-then-not-all_below
-returns-then-not-all_below c = let S = c in lost S.requires S.args.identities.now S.args.vc S.args.c S.args.out.now c.if-identities-eq0.false c.all_below.ensures c.if-not-all_below.true
+returns-then-not-all_below c = let S = c in rw c.into-then-not-all_below.ensures (lost S.requires S.args.identities.now S.args.vc S.args.c S.args.out.now c.is_empty.ensures c.if-is_empty.false c.all_below.ensures c.if-not-all_below.true)
 
 pub extend-requires : goal.extend-requires
-extend-requires c = let S = c in extend_asks S.requires S.args.identities.now S.args.vc S.args.c S.args.out.now c.if-identities-eq0.false c.all_below.ensures c.if-not-all_below.false
+extend-requires c = let S = c in extend_asks S.requires S.args.identities.now S.args.vc S.args.c S.args.out.now c.is_empty.ensures c.if-is_empty.false c.all_below.ensures c.if-not-all_below.false
 
 pub write_pool-requires : goal.write_pool-requires
-write_pool-requires c = let S = c in pool_asks S.requires S.args.identities.now S.args.vc S.args.c S.args.out.now c.if-identities-eq0.false c.all_below.ensures c.if-not-all_below.false c.extend.ensures c.in-Added.is
+write_pool-requires c = let S = c in pool_asks S.requires S.args.identities.now S.args.vc S.args.c S.args.out.now c.is_empty.ensures c.if-is_empty.false c.all_below.ensures c.if-not-all_below.false c.extend.ensures c.in_ok-end.was
 
-pub tell-requires : goal.tell-requires
-tell-requires c = let S = c in numbers_asked S.requires S.args.identities.now S.args.vc S.args.c S.args.out.now c.if-identities-eq0.false c.all_below.ensures c.if-not-all_below.false c.extend.ensures c.in-Added.is
+pub of-requires : goal.of-requires
+of-requires c = let S = c in numbers_asked S.requires S.args.identities.now S.args.vc S.args.c S.args.out.now c.is_empty.ensures c.if-is_empty.false c.all_below.ensures c.if-not-all_below.false c.extend.ensures c.in_ok-end.was
 
-pub returns-in-Full : goal.returns-in-Full
-returns-in-Full c = let S = c in limits_full S.requires S.args.identities.now S.args.vc S.args.c S.args.out.now c.if-identities-eq0.false c.all_below.ensures c.if-not-all_below.false c.extend.ensures c.in-Full.is
+pub returns-in_err-end : goal.returns-in_err-end
+returns-in_err-end c = let S = c in let p = err_from_is_err_and c.from_residual.result c.from_residual.ensures.1 in rw (p.1, p.2) (not-added S.requires S.args.identities.now S.args.vc S.args.c S.args.out.now c.is_empty.ensures c.if-is_empty.false c.all_below.ensures c.if-not-all_below.false c.extend.ensures c.in_err-end.was)
 
-pub returns-in-Counts : goal.returns-in-Counts
-returns-in-Counts c = let S = c in counts_differ S.requires S.args.identities.now S.args.vc S.args.c S.args.out.now c.if-identities-eq0.false c.all_below.ensures c.if-not-all_below.false c.extend.ensures c.in-Counts.is
+pub returns-in_err-size : goal.returns-in_err-size
+returns-in_err-size c = let S = c in let p = err_from_is_err_and c.from_residual-in_err-size.result c.from_residual-in_err-size.ensures.1 in let o : c.write_pool.result ≡ None = grind arith in let m : c.in_err-size.field-0.0 ≡ Full = grind arith in rw (p.1, p.2, m) (no_room S.requires S.args.identities.now S.args.vc S.args.c S.args.out.now c.is_empty.ensures c.if-is_empty.false c.all_below.ensures c.if-not-all_below.false c.extend.ensures c.in_ok-end.was (let z : S.args.vc < 65536 = omega (arith, S.well_formed) in z) c.write_pool.ensures o)
 
-pub returns-in-Full-write_pool : goal.returns-in-Full-write_pool
-returns-in-Full-write_pool c = let S = c in no_room S.requires S.args.identities.now S.args.vc S.args.c S.args.out.now c.if-identities-eq0.false c.all_below.ensures c.if-not-all_below.false c.extend.ensures c.in-Added.is (let z : S.args.vc < 65536 = omega (arith, S.well_formed) in z) c.write_pool.ensures c.in-Full-write_pool.is
-
-pub returns-in-Done : goal.returns-in-Done
-returns-in-Done c = let S = c in put S.requires S.args.identities.now S.args.vc S.args.c S.args.out.now c.if-identities-eq0.false c.all_below.ensures c.if-not-all_below.false c.extend.ensures c.in-Added.is (let z : S.args.vc < 65536 = omega (arith, S.well_formed) in z) c.write_pool.ensures c.in-Done.is c.tell.ensures
+pub returns : goal.returns
+returns c = let S = c in let o : c.write_pool.result ≡ Some c.in_ok-size.size = grind arith in put S.requires S.args.identities.now S.args.vc S.args.c S.args.out.now c.is_empty.ensures c.if-is_empty.false c.all_below.ensures c.if-not-all_below.false c.extend.ensures c.in_ok-end.was (let z : S.args.vc < 65536 = omega (arith, S.well_formed) in z) c.write_pool.ensures o c.of.ensures

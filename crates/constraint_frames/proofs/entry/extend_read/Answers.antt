@@ -2,7 +2,8 @@
 use Prim.Native.Nat.{ℕ}
 use mathlib.Core.Path.{refl}
 use lib.ListN.{length-replicate}
-use Rattle.constraint_frames.specs.declared.answer.Constrained.TheVariants as told
+use Rattle.std.specs.Prelude.{Err}
+use Rattle.std.proofs.lemmas.Result.{err_from_is_err_and}
 use Rattle.constraint_frames.proofs.Listings.{listed_front, listed_room, listed_count}
 use Rattle.constraint_frames.proofs.Readings.{admit-fits, bad-set, refused-pool, judged, admitted-asks, admitted-pool}
 use Rattle.constraint_frames.proofs.entry.extend_read.Goals as goal
@@ -17,31 +18,22 @@ pub is_good-requires : goal.is_good-requires
 is_good-requires c = listed_front c.list_members-count.ensures (length-replicate {A = ℕ} 512 0)
 
 pub returns-then-not-is_good : goal.returns-then-not-is_good
-returns-then-not-is_good c = let S = c in bad-set S.requires S.args.identities.now S.args.chosen.now S.args.vc S.args.c S.args.out.now c.is_good.ensures c.if-not-is_good.true
+returns-then-not-is_good c = let S = c in rw c.into.ensures (bad-set S.requires S.args.identities.now S.args.chosen.now S.args.vc S.args.c S.args.out.now c.is_good.ensures c.if-not-is_good.true)
 
-pub admit-admission-requires : goal.admit-admission-requires
-admit-admission-requires c = let S = c in admit-fits S.requires S.args.identities.now S.args.chosen.now S.args.vc S.args.c S.args.out.now
+pub admit-requires : goal.admit-requires
+admit-requires c = let S = c in admit-fits S.requires S.args.identities.now S.args.chosen.now S.args.vc S.args.c S.args.out.now
 
-pub slice_bounds-members-end-in-Admitted : goal.slice_bounds-members-end-in-Admitted
-slice_bounds-members-end-in-Admitted c = listed_room c.list_members-count.ensures (length-replicate {A = ℕ} 512 0)
+pub slice_bounds-members-end-2 : goal.slice_bounds-members-end-2
+slice_bounds-members-end-2 c = listed_room c.list_members-count.ensures (length-replicate {A = ℕ} 512 0)
 
 pub slice_bounds-extend_admitted-end : goal.slice_bounds-extend_admitted-end
 slice_bounds-extend_admitted-end c = listed_count c.list_members-count.ensures (length-replicate {A = ℕ} 512 0)
 
 pub extend_admitted-requires : goal.extend_admitted-requires
-extend_admitted-requires c = let S = c in admitted-asks S.requires S.args.identities.now S.args.chosen.now S.args.vc S.args.c S.args.out.now c.is_good.ensures c.if-not-is_good.false (judged S.requires S.args.identities.now S.args.chosen.now S.args.vc S.args.c S.args.out.now c.is_good.ensures c.if-not-is_good.false (c.admit-admission.ensures _) refl c.in-Admitted.is) (listed_front c.list_members-count.ensures (length-replicate {A = ℕ} 512 0))
+extend_admitted-requires c = let S = c in admitted-asks S.requires S.args.identities.now S.args.chosen.now S.args.vc S.args.c S.args.out.now c.is_good.ensures c.if-not-is_good.false (judged S.requires S.args.identities.now S.args.chosen.now S.args.vc S.args.c S.args.out.now c.is_good.ensures c.if-not-is_good.false (c.admit.ensures _) refl c.in_ok-admit.was) (listed_front c.list_members-count.ensures (length-replicate {A = ℕ} 512 0))
 
-pub returns-in-ChildCount : goal.returns-in-ChildCount
-returns-in-ChildCount c = let S = c in refused-pool S.requires S.args.identities.now S.args.chosen.now S.args.vc S.args.c S.args.out.now c.is_good.ensures c.if-not-is_good.false (judged S.requires S.args.identities.now S.args.chosen.now S.args.vc S.args.c S.args.out.now c.is_good.ensures c.if-not-is_good.false (c.admit-admission.ensures _) refl c.in-ChildCount.is) (told.ChildCount _) refl
+pub returns-in_err-admit : goal.returns-in_err-admit
+returns-in_err-admit c = let S = c in let p = err_from_is_err_and c.from_residual.result c.from_residual.ensures.1 in rw (p.1, p.2) (refused-pool S.requires S.args.identities.now S.args.chosen.now S.args.vc S.args.c S.args.out.now c.is_good.ensures c.if-not-is_good.false (judged S.requires S.args.identities.now S.args.chosen.now S.args.vc S.args.c S.args.out.now c.is_good.ensures c.if-not-is_good.false (c.admit.ensures _) refl c.in_err-admit.was) (Err _) refl)
 
-pub returns-in-NotThere : goal.returns-in-NotThere
-returns-in-NotThere c = let S = c in refused-pool S.requires S.args.identities.now S.args.chosen.now S.args.vc S.args.c S.args.out.now c.is_good.ensures c.if-not-is_good.false (judged S.requires S.args.identities.now S.args.chosen.now S.args.vc S.args.c S.args.out.now c.is_good.ensures c.if-not-is_good.false (c.admit-admission.ensures _) refl c.in-NotThere.is) (told.NotThere _) refl
-
-pub returns-in-LostRoot : goal.returns-in-LostRoot
-returns-in-LostRoot c = let S = c in refused-pool S.requires S.args.identities.now S.args.chosen.now S.args.vc S.args.c S.args.out.now c.is_good.ensures c.if-not-is_good.false (judged S.requires S.args.identities.now S.args.chosen.now S.args.vc S.args.c S.args.out.now c.is_good.ensures c.if-not-is_good.false (c.admit-admission.ensures _) refl c.in-LostRoot.is) told.Lost refl
-
-pub returns-in-Cycle : goal.returns-in-Cycle
-returns-in-Cycle c = let S = c in refused-pool S.requires S.args.identities.now S.args.chosen.now S.args.vc S.args.c S.args.out.now c.is_good.ensures c.if-not-is_good.false (judged S.requires S.args.identities.now S.args.chosen.now S.args.vc S.args.c S.args.out.now c.is_good.ensures c.if-not-is_good.false (c.admit-admission.ensures _) refl c.in-Cycle.is) (told.Cycle _) refl
-
-pub returns-in-Admitted : goal.returns-in-Admitted
-returns-in-Admitted c = let S = c in admitted-pool S.requires S.args.identities.now S.args.chosen.now S.args.vc S.args.c S.args.out.now c.is_good.ensures c.if-not-is_good.false (judged S.requires S.args.identities.now S.args.chosen.now S.args.vc S.args.c S.args.out.now c.is_good.ensures c.if-not-is_good.false (c.admit-admission.ensures _) refl c.in-Admitted.is) (listed_front c.list_members-count.ensures (length-replicate {A = ℕ} 512 0)) c.extend_admitted.ensures
+pub returns : goal.returns
+returns c = let S = c in admitted-pool S.requires S.args.identities.now S.args.chosen.now S.args.vc S.args.c S.args.out.now c.is_good.ensures c.if-not-is_good.false (judged S.requires S.args.identities.now S.args.chosen.now S.args.vc S.args.c S.args.out.now c.is_good.ensures c.if-not-is_good.false (c.admit.ensures _) refl c.in_ok-admit.was) (listed_front c.list_members-count.ensures (length-replicate {A = ℕ} 512 0)) c.extend_admitted.ensures

@@ -1,9 +1,13 @@
 -- `constraint_frames::members::is_good` meets its contract. Assumes nothing.
-use Rattle.constraint_frames.proofs.Listings.{good_size, bad_size}
+use borrow.Author.Tests.{tests}
+use native.Mathlib.Omega.{arith}
+use Rattle.constraint_frames.specs.Listing.{set_good}
 use Rattle.constraint_frames.proofs.members.is_good.Goals as goal
 
 pub returns-then-set-members : goal.returns-then-set-members
-returns-then-set-members c = good_size c.args.set.now c.args.members.now c.requires c.args.m c.if-set-members.true c.all_below.ensures
+unfolding set_good
+returns-then-set-members c = grind (arith, tests)
 
-pub returns : goal.returns
-returns c = bad_size c.args.set.now c.args.members.now c.requires c.args.m c.if-set-members.false
+pub returns-else-set-members : goal.returns-else-set-members
+unfolding set_good
+returns-else-set-members c = grind (arith, tests)

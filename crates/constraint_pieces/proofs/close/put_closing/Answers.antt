@@ -1,6 +1,5 @@
 -- `constraint_pieces::close::put_closing` meets its contract.
 -- Assumes nothing.
-use mathlib.Core.Path.{◌≡◌, sym, ◌∙◌, ap}
 use native.Mathlib.Omega.{arith}
 use Rattle.constraint_pieces.proofs.Closes.{closed-by}
 use Rattle.constraint_pieces.proofs.close.put_closing.Goals as goal

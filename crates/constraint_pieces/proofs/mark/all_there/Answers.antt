@@ -1,10 +1,7 @@
 -- `constraint_pieces::mark::all_there` meets its contract: whether all are there hangs on those from k on.
 -- Assumes nothing.
-use Prim.Native.Nat.{◌-◌, ◌≤◌}
-use mathlib.Core.Path.{◌≡◌, refl}
+use mathlib.Core.Path.{refl}
 use native.Mathlib.Omega.{arith}
-use lib.ListN.{length, drop}
-use Rattle.constraint_pieces.specs.Marks.{all_below}
 use Rattle.constraint_pieces.proofs.Turns.{one-past, one_below, all_looked}
 use Rattle.constraint_pieces.proofs.mark.all_there.Goals as goal
 

@@ -1,10 +1,6 @@
 -- `constraint_pieces::mark::mark_members` meets its contract: the members from k on are left to mark.
 -- Assumes nothing.
-use Prim.Native.Nat.{◌-◌, ◌≤◌}
-use mathlib.Core.Path.{◌≡◌}
 use native.Mathlib.Omega.{arith}
-use lib.ListN.{length, drop}
-use Rattle.constraint_pieces.specs.Marks.{mark_all}
 use Rattle.constraint_pieces.proofs.Turns.{none-marked, one-marked, all-marked}
 use Rattle.constraint_pieces.proofs.mark.mark_members.Goals as goal
 

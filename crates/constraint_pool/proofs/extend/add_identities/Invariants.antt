@@ -6,8 +6,8 @@ use Rattle.constraint_pool.specs.Nodes.{identities_nodes}
 use Rattle.constraint_pool.specs.Asked.{Appends}
 use Rattle.constraint_pool.proofs.extend.add_identities.Given as goal
 
-abbrev pub invariant-loop-k : goal.invariant-loop-k
-invariant-loop-k l = (l.k ≤ length l.others) × Appends l.initial.nodes l.initial.literals l.at (identities_nodes l.vc l.at (take l.k l.others)) l.nodes l.literals l.next
+abbrev pub invariant-loop-e : goal.invariant-loop-e
+invariant-loop-e l = (l.e-index ≤ length l.others) × Appends l.initial.nodes l.initial.literals l.at (identities_nodes l.vc l.at (take l.e-index l.others)) l.nodes l.literals l.next
 
-abbrev pub decreases-loop-k : goal.decreases-loop-k
-decreases-loop-k l = length l.others - l.k
+abbrev pub decreases-loop-e : goal.decreases-loop-e
+decreases-loop-e l = length l.others - l.e-index

@@ -9,8 +9,8 @@ use Rattle.pool.specs.Ranking.{Tabling}
 use Rattle.constraint_pool.specs.Sizes.{over, members_size, MembersSizeAsks}
 use Rattle.constraint_pool.proofs.measure.members_size.Given as goal
 
-abbrev pub invariant-loop-k : goal.invariant-loop-k
-invariant-loop-k v = (v.k ≤ length v.members) × ((l : List ℕ) (n m : ℕ) → MembersSizeAsks v.nodes l v.expressions v.members n m → v.size ≡ min over (members_size (tabled (Tabling v.nodes l v.expressions n m)) (take v.k v.members)))
+abbrev pub invariant-loop-e : goal.invariant-loop-e
+invariant-loop-e v = (v.e-index ≤ length v.members) × ((l : List ℕ) (n m : ℕ) → MembersSizeAsks v.nodes l v.expressions v.members n m → v.size ≡ min over (members_size (tabled (Tabling v.nodes l v.expressions n m)) (take v.e-index v.members)))
 
-abbrev pub decreases-loop-k : goal.decreases-loop-k
-decreases-loop-k v = length v.members - v.k
+abbrev pub decreases-loop-e : goal.decreases-loop-e
+decreases-loop-e v = length v.members - v.e-index

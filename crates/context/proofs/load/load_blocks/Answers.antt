@@ -15,9 +15,6 @@ loop-k-init c = (c.blocks_of-n.ensures.is, omega arith, words-none _ _)
 pub entry_at-requires : goal.entry_at-requires
 entry_at-requires c = omega (arith, c.requires)
 
-pub word_of-requires : goal.word_of-requires
-word_of-requires c = omega (arith, c.requires)
-
 pub offset_bounds-blocks-k : goal.offset_bounds-blocks-k
 offset_bounds-blocks-k c = omega (arith, c.requires)
 
@@ -28,7 +25,7 @@ pub loop-k-smaller : goal.loop-k-smaller
 loop-k-smaller c = omega (arith, c.requires)
 
 pub loop-k-preserved : goal.loop-k-preserved
-loop-k-preserved c = (c.loop-k.invariant.0, omega arith, words_more _ _ _ _ _ c.loop-k.invariant.2 (c.word_of.ensures ∙ ap word_of c.entry_at.ensures))
+loop-k-preserved c = (c.loop-k.invariant.0, omega arith, words_more _ _ _ _ _ c.loop-k.invariant.2 (c.into.ensures ∙ ap word_of c.entry_at.ensures))
 
 pub returns : goal.returns
 returns c = words-all _ _ _ _ _ c.loop-k.invariant.0 c.loop-k.invariant.1 c.loop-k-test.false c.loop-k.invariant.2

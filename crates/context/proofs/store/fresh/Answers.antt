@@ -7,4 +7,4 @@ pub returns-then-context-ne-CONTEXT_SIZE : goal.returns-then-context-ne-CONTEXT_
 returns-then-context-ne-CONTEXT_SIZE c = not-fresh _ c.if-context-ne-CONTEXT_SIZE.true
 
 pub returns : goal.returns
-returns c = made-fresh _ _ c.if-context-ne-CONTEXT_SIZE.false c.clear.ensures
+returns c = made-fresh _ _ c.if-context-ne-CONTEXT_SIZE.false (c.fill.ensures.after (λ y e. e))

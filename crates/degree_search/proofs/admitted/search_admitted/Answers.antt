@@ -4,13 +4,13 @@ use Rattle.degree_search.proofs.Questions.{no_identity, no_bits, no-expression, 
 use Rattle.degree_search.proofs.admitted.search_admitted.Goals as goal
 
 pub returns-then-identities-eq0 : goal.returns-then-identities-eq0
-returns-then-identities-eq0 c = λ l rank a. no_identity a c.args.identities.now c.args.n_bits c.args.n_bits_ext c.args.limit c.args.chosen.now c.if-identities-eq0.true
+returns-then-identities-eq0 c = λ l rank a. rw c.into.ensures (no_identity a c.args.identities.now c.args.n_bits c.args.n_bits_ext c.args.limit c.args.chosen.now c.if-identities-eq0.true)
 
 pub returns-then-not-bits_ok : goal.returns-then-not-bits_ok
-returns-then-not-bits_ok c = λ l rank a. no_bits a c.args.identities.now c.args.n_bits c.args.n_bits_ext c.args.limit c.args.chosen.now c.if-identities-eq0.false c.bits_ok.ensures c.if-not-bits_ok.true
+returns-then-not-bits_ok c = λ l rank a. rw c.into-then-not-bits_ok.ensures (no_bits a c.args.identities.now c.args.n_bits c.args.n_bits_ext c.args.limit c.args.chosen.now c.if-identities-eq0.false c.bits_ok.ensures c.if-not-bits_ok.true)
 
 pub returns-then-not-all_below : goal.returns-then-not-all_below
-returns-then-not-all_below c = λ l rank a. no-expression a c.args.identities.now c.args.n_bits c.args.n_bits_ext c.args.limit c.args.chosen.now c.if-identities-eq0.false c.bits_ok.ensures c.if-not-bits_ok.false c.all_below.ensures c.if-not-all_below.true
+returns-then-not-all_below c = λ l rank a. rw c.into-then-not-all_below.ensures (no-expression a c.args.identities.now c.args.n_bits c.args.n_bits_ext c.args.limit c.args.chosen.now c.if-identities-eq0.false c.bits_ok.ensures c.if-not-bits_ok.false c.all_below.ensures c.if-not-all_below.true)
 
 pub fill-requires : goal.fill-requires
 fill-requires c = (refl, c.requires)

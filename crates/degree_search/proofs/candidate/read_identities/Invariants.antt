@@ -8,7 +8,7 @@ use Rattle.degree_search.proofs.Folds.{Reading-on}
 use Rattle.degree_search.proofs.candidate.read_identities.Given as goal
 
 abbrev pub invariant-loop-k : goal.invariant-loop-k
-invariant-loop-k v = (l : List ℕ) (n : ℕ) (rank : ℕ → ℕ) (a : AsksAll (Tabling v.nodes l v.expressions n v.m) rank v.full v.identities v.initial.set v.initial.tally) → Reading-on a v.reading v.set v.tally v.k
+invariant-loop-k v = (l : List ℕ) (n : ℕ) (rank : ℕ → ℕ) (a : AsksAll (Tabling v.nodes l v.expressions n v.m) rank v.full v.identities v.initial.set v.initial.tally) → Reading-on a v.largest v.set v.tally v.k
 
 abbrev pub decreases-loop-k : goal.decreases-loop-k
 decreases-loop-k v = length v.identities - v.k

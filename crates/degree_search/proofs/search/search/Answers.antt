@@ -1,16 +1,14 @@
 -- `degree_search::search::search` meets its contract: each need is one lemma of proofs/Questions.antt. Assumes nothing.
+use Rattle.std.proofs.lemmas.Result.{err_from_is_err_and}
 use Rattle.degree_search.specs.Searching.{asking}
-use Rattle.degree_search.proofs.Questions.{read_fits, malformed-run, limit-run, ran-run}
+use Rattle.degree_search.proofs.Questions.{read_fits, stopped-run, ran-run}
 use Rattle.degree_search.proofs.search.search.Goals as goal
 
-pub search_pool-searched-requires : goal.search_pool-searched-requires
-search_pool-searched-requires c = read_fits c.fill.ensures c.in-Read.is
+pub search_pool-requires : goal.search_pool-requires
+search_pool-requires c = read_fits c.fill.ensures c.in_ok-c.was
 
-pub returns-in-Malformed : goal.returns-in-Malformed
-returns-in-Malformed c = λ vc. malformed-run c.fill.ensures (asking c.args.identities.now vc c.args.n_bits c.args.n_bits_ext c.args.limit) c.in-Malformed.is c.args.chosen.now
+pub returns-in_err-c : goal.returns-in_err-c
+returns-in_err-c c = λ vc. let p = err_from_is_err_and c.from_residual.result c.from_residual.ensures.1 in rw (p.1, p.2) (stopped-run c.fill.ensures (asking c.args.identities.now vc c.args.n_bits c.args.n_bits_ext c.args.limit) c.in_err-c.was c.args.chosen.now)
 
-pub returns-in-Full : goal.returns-in-Full
-returns-in-Full c = λ vc. limit-run c.fill.ensures (asking c.args.identities.now vc c.args.n_bits c.args.n_bits_ext c.args.limit) c.in-Full.is c.args.chosen.now
-
-pub returns-in-Read : goal.returns-in-Read
-returns-in-Read c = λ vc. ran-run c.fill.ensures (asking c.args.identities.now vc c.args.n_bits c.args.n_bits_ext c.args.limit) c.in-Read.is (c.search_pool-searched.ensures _ vc)
+pub returns : goal.returns
+returns c = λ vc. ran-run c.fill.ensures (asking c.args.identities.now vc c.args.n_bits c.args.n_bits_ext c.args.limit) c.in_ok-c.was (c.search_pool.ensures _ vc)

@@ -11,17 +11,17 @@ loop-j-init c = (omega arith, refl, keyed_begin _ _ _)
 pub overflow_mul-j : goal.overflow_mul-j
 overflow_mul-j c = omega (arith, c.requires.few, c.loop-j-test.true)
 
-pub offset_bounds-keys-j : goal.offset_bounds-keys-j
-offset_bounds-keys-j c = omega (arith, c.requires.few, c.loop-j-test.true)
+pub offset_bounds-cells-j : goal.offset_bounds-cells-j
+offset_bounds-cells-j c = omega (arith, c.requires.few, c.loop-j-test.true)
 
-pub bounds-keys-j : goal.bounds-keys-j
-bounds-keys-j c = omega (arith, c.requires.few, c.loop-j-test.true)
+pub bounds-cells-j : goal.bounds-cells-j
+bounds-cells-j c = omega (arith, c.requires.few, c.loop-j-test.true)
 
-pub offset_bounds-values-j : goal.offset_bounds-values-j
-offset_bounds-values-j c = omega (arith, c.requires.few, c.loop-j-test.true)
+pub offset_bounds-cells-j-in-loop-j : goal.offset_bounds-cells-j-in-loop-j
+offset_bounds-cells-j-in-loop-j c = omega (arith, c.requires.few, c.loop-j-test.true)
 
-pub bounds-values-j : goal.bounds-values-j
-bounds-values-j c = omega (arith, c.requires.few, c.loop-j-test.true)
+pub bounds-cells-j-in-loop-j : goal.bounds-cells-j-in-loop-j
+bounds-cells-j-in-loop-j c = omega (arith, c.requires.few, c.loop-j-test.true)
 
 pub put_keyed-requires : goal.put_keyed-requires
 put_keyed-requires c = record { fits = omega (arith, c.requires.fits, c.loop-j-test.true, c.loop-j.invariant.1); small = c.requires.small _ c.loop-j-test.true }

@@ -4,14 +4,14 @@ use native.Mathlib.Omega.{arith}
 use Rattle.evaluator_run.specs.Laws.Computes.{put_full, put-done}
 use Rattle.evaluator_run.proofs.compute.put_cells.Goals as goal
 
-pub overflow_mul-n : goal.overflow_mul-n
-overflow_mul-n c = omega (arith, c.requires.few)
+pub overflow_mul-cells : goal.overflow_mul-cells
+overflow_mul-cells c = omega (arith, c.requires.few)
 
-pub returns-then-out-n : goal.returns-then-out-n
-returns-then-out-n c = put_full _ _ _ _ c.if-out-n.true
+pub returns-then-out-cells : goal.returns-then-out-cells
+returns-then-out-cells c = put_full _ _ _ _ c.if-out-cells.true
 
 pub put_all-requires : goal.put_all-requires
-put_all-requires c = record { few = c.requires.few; fits = c.if-out-n.false; small = c.requires.small }
+put_all-requires c = record { few = c.requires.few; fits = c.if-out-cells.false; small = c.requires.small }
 
 pub returns : goal.returns
-returns c = put-done _ _ _ _ c.if-out-n.false c.put_all.ensures
+returns c = put-done _ _ _ _ c.if-out-cells.false c.put_all.ensures

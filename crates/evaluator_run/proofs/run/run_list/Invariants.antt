@@ -5,11 +5,11 @@ use mathlib.Core.Path.{◌≡◌}
 use Rattle.kinds.specs.Steps.{steps_of}
 use Rattle.evaluator_cells.specs.Given.{lent}
 use Rattle.lists.specs.Records.{record_count}
-use Rattle.evaluator_step.specs.Machine.{table, Kept, next, run_to}
+use Rattle.evaluator_step.specs.Machine.{Kept, next, run_to}
 use Rattle.evaluator_run.proofs.run.run_list.Given as goal
 
 abbrev pub invariant-loop-k : goal.invariant-loop-k
-invariant-loop-k l = (l.k ≤ record_count l.list) × (Kept l.m (table l.heads l.nexts l.keys l.held l.n)) × (run_to l.numbers l.m (lent l.values) (table l.initial.heads l.initial.nexts l.initial.keys l.initial.held 0) (steps_of l.list l.k) ≡ next (table l.heads l.nexts l.keys l.held l.n))
+invariant-loop-k l = (l.k ≤ record_count l.list) × (Kept l.m l.cells) × (run_to l.numbers l.m (lent l.values) l.initial.cells (steps_of l.list l.k) ≡ next l.cells)
 
 abbrev pub decreases-loop-k : goal.decreases-loop-k
 decreases-loop-k l = record_count l.list - l.k

@@ -10,22 +10,22 @@ pub number_at-requires : goal.number_at-requires
 number_at-requires c = record { size = c.requires.1.size }
 
 pub returns-then-r-eq-NUMBER : goal.returns-then-r-eq-NUMBER
-returns-then-r-eq-NUMBER c = λ n k. read_number _ _ _ _ c.args.r _ c.if-r-eq-NUMBER.true c.number_at.ensures
+returns-then-r-eq-NUMBER c = read_number _ _ _ _ c.args.r _ c.if-r-eq-NUMBER.true c.number_at.ensures
 
 pub find-requires : goal.find-requires
-find-requires c = (c.requires.2.0, c.requires.2.1.chained)
+find-requires c = (_, c.requires.2.chained)
 
-pub offset_bounds-held-i : goal.offset_bounds-held-i
-offset_bounds-held-i c = let k = c.requires.2.1 in omega (arith, (index_there _ _ _ _ (sym (c.find.ensures _ k.chained) ∙ c.in-At.is)).0, k.chained.few)
+pub offset_bounds-cells-i : goal.offset_bounds-cells-i
+offset_bounds-cells-i c = let k = c.requires.2 in omega (arith, (index_there _ _ _ _ (sym (c.find.ensures _ k.chained) ∙ c.in-Some.is)).0, k.chained.few)
 
-pub bounds-held-i : goal.bounds-held-i
-bounds-held-i c = let k = c.requires.2.1 in omega (arith, (index_there _ _ _ _ (sym (c.find.ensures _ k.chained) ∙ c.in-At.is)).0, k.chained.few, k.size)
+pub bounds-cells-i : goal.bounds-cells-i
+bounds-cells-i c = let k = c.requires.2 in omega (arith, (index_there _ _ _ _ (sym (c.find.ensures _ k.chained) ∙ c.in-Some.is)).0, k.chained.few, k.size)
 
 pub before-requires : goal.before-requires
 before-requires c = record { lends = c.requires.0; in_ids = omega (arith, c.well_formed); in_byte = omega (arith, c.well_formed) }
 
-pub returns-in-At : goal.returns-in-At
-returns-in-At c = λ n k. read-written _ _ _ _ c.args.r _ _ _ c.if-r-eq-NUMBER.false c.place.ensures (c.find.ensures n k.chained) c.in-At.is
+pub returns-in-Some : goal.returns-in-Some
+returns-in-Some c = read-written _ _ _ _ c.args.r _ _ _ c.if-r-eq-NUMBER.false c.place.ensures (c.find.ensures _ c.requires.2.chained) c.in-Some.is
 
-pub returns-in-Nothing : goal.returns-in-Nothing
-returns-in-Nothing c = λ n k. read-given _ _ _ _ c.args.r _ _ c.before-in-Nothing.result c.if-r-eq-NUMBER.false c.place.ensures (c.find.ensures n k.chained) c.in-Nothing.is c.before-in-Nothing.ensures
+pub returns-in-None : goal.returns-in-None
+returns-in-None c = read-given _ _ _ _ c.args.r _ _ c.before-in-None.result c.if-r-eq-NUMBER.false c.place.ensures (c.find.ensures _ c.requires.2.chained) c.in-None.is c.before-in-None.ensures

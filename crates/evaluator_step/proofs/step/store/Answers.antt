@@ -9,17 +9,17 @@ use Rattle.evaluator_step.proofs.step.store.Goals as goal
 pub find-requires : goal.find-requires
 find-requires c = (_, c.requires.chained)
 
-pub offset_bounds-held-i : goal.offset_bounds-held-i
-offset_bounds-held-i c = omega (arith, (index_there _ _ _ _ (sym (c.find.ensures _ c.requires.chained) ∙ c.in-At.is)).0, c.requires.chained.few)
+pub offset_bounds-cells-i : goal.offset_bounds-cells-i
+offset_bounds-cells-i c = omega (arith, (index_there _ _ _ _ (sym (c.find.ensures _ c.requires.chained) ∙ c.in-Some.is)).0, c.requires.chained.few)
 
-pub bounds-held-i : goal.bounds-held-i
-bounds-held-i c = omega (arith, (index_there _ _ _ _ (sym (c.find.ensures _ c.requires.chained) ∙ c.in-At.is)).0, c.requires.chained.few, c.requires.size)
+pub bounds-cells-i : goal.bounds-cells-i
+bounds-cells-i c = omega (arith, (index_there _ _ _ _ (sym (c.find.ensures _ c.requires.chained) ∙ c.in-Some.is)).0, c.requires.chained.few, c.requires.size)
 
-pub returns-then-n-lt-CELL_LIMIT : goal.returns-then-n-lt-CELL_LIMIT
-returns-then-n-lt-CELL_LIMIT c = stored-new _ _ _ _ (c.find.ensures _ c.requires.chained) c.in-Nothing.is c.if-n-lt-CELL_LIMIT.true c.add.ensures
+pub returns-then-cells-lt-CELL_LIMIT : goal.returns-then-cells-lt-CELL_LIMIT
+returns-then-cells-lt-CELL_LIMIT c = stored-new _ _ _ _ (c.find.ensures _ c.requires.chained) c.in_default.is c.if-cells-lt-CELL_LIMIT.true c.add.ensures
 
-pub returns-in-At : goal.returns-in-At
-returns-in-At c = stored-old _ _ _ _ _ (c.find.ensures _ c.requires.chained) c.in-At.is
+pub returns-in-Some : goal.returns-in-Some
+returns-in-Some c = stored-old _ _ _ _ _ (c.find.ensures _ c.requires.chained) c.in-Some.is
 
-pub returns-else-n-lt-CELL_LIMIT : goal.returns-else-n-lt-CELL_LIMIT
-returns-else-n-lt-CELL_LIMIT c = stored-over _ _ _ _ (c.find.ensures _ c.requires.chained) c.in-Nothing.is c.if-n-lt-CELL_LIMIT.false
+pub returns : goal.returns
+returns c = stored-over _ _ _ _ (c.find.ensures _ c.requires.chained) c.in_default.is c.if-cells-lt-CELL_LIMIT.false

@@ -1,8 +1,8 @@
+use Rattle.std.proofs.lemmas.Result.{err_from_is_err_and}
 use Rattle.feed.proofs.feed.end_line.Goals as goal
 use lib.ListN.{length-take}
 -- `feed::feed::end_line` meets its contract: the line is taken, and none is open after it.
 -- Assumes nothing.
-use mathlib.Core.Path.{refl}
 use native.Mathlib.Omega.{arith}
 use Rattle.feed.specs.Laws.{held-few}
 use Rattle.feed.proofs.Feeds.{line-lost, line-fed}
@@ -10,11 +10,8 @@ use Rattle.feed.proofs.Feeds.{line-lost, line-fed}
 pub slice_bounds-take_line-end : goal.slice_bounds-take_line-end
 slice_bounds-take_line-end c = simp length-take (omega (arith, held-few c.requires.1.kept, c.requires.1.kept.room))
 
-pub returns-in-Malformed : goal.returns-in-Malformed
-returns-in-Malformed c = λ t w. line-lost t _ _ _ w _ _ c.take_line.ensures _ _ _ c.in-Malformed.is refl
+pub returns-in_err-counts : goal.returns-in_err-counts
+returns-in_err-counts c = let p = err_from_is_err_and c.from_residual.result c.from_residual.ensures.1 in λ t w. rw (p.1, p.2) (line-lost t _ _ _ w _ _ c.take_line.ensures _ c.in_err-counts.was)
 
-pub returns-in-Full : goal.returns-in-Full
-returns-in-Full c = λ t w. line-lost t _ _ _ w _ _ c.take_line.ensures _ _ _ c.in-Full.is refl
-
-pub returns-in-Read : goal.returns-in-Read
-returns-in-Read c = λ t w. line-fed t _ _ _ w _ _ c.take_line.ensures _ c.in-Read.is
+pub returns : goal.returns
+returns c = λ t w. line-fed t _ _ _ w _ _ c.take_line.ensures _ c.in_ok-counts.was

@@ -6,11 +6,11 @@ use native.Mathlib.Omega.{arith}
 use Rattle.feed.specs.Laws.{held-few}
 use Rattle.feed.proofs.Feeds.{end_none, end_line}
 
-pub returns-then-held-eq0 : goal.returns-then-held-eq0
-returns-then-held-eq0 c = λ t w. end_none t _ _ _ w c.if-held-eq0.true
+pub returns-then-p-eq0 : goal.returns-then-p-eq0
+returns-then-p-eq0 c = λ t w. end_none t _ _ _ w c.if-p-eq0.true
 
 pub slice_bounds-take_line-end : goal.slice_bounds-take_line-end
 slice_bounds-take_line-end c = simp length-take (omega (arith, held-few c.requires.1.kept, c.requires.1.kept.room))
 
 pub returns : goal.returns
-returns c = λ t w. end_line t _ _ _ w c.if-held-eq0.false _ _ c.take_line.ensures
+returns c = λ t w. end_line t _ _ _ w c.if-p-eq0.false _ _ c.take_line.ensures

@@ -10,4 +10,4 @@ pub returns-then-not-good_lists : goal.returns-then-not-good_lists
 returns-then-not-good_lists c = lists-malformed _ _ _ _ _ c.if-counter-gt-LAST_COUNTER.false _ c.good_lists.ensures c.if-not-good_lists.true
 
 pub returns : goal.returns
-returns c = lists-decided _ _ _ _ _ c.if-counter-gt-LAST_COUNTER.false _ c.good_lists.ensures c.if-not-good_lists.false _ c.ruled_lists.ensures
+returns c = lists-decided _ _ _ _ _ c.if-counter-gt-LAST_COUNTER.false _ c.good_lists.ensures c.if-not-good_lists.false _ c.judge_lists.ensures

@@ -7,19 +7,13 @@ use Rattle.fixing.specs.Laws.Giving.{give-begin, give-next, give-end}
 use Rattle.fixing.proofs.temporaries.give_list.Goals as goal
 
 pub loop-k-init : goal.loop-k-init
-loop-k-init c = (omega arith, give-begin _ _ _)
-
-pub overflow_mul-k : goal.overflow_mul-k
-overflow_mul-k c = omega (arith, record_in c.args.list.now c.loop-k.k c.loop-k-test.true, c.well_formed)
+loop-k-init c = give-begin _ _ _
 
 pub give_record-after-requires : goal.give_record-after-requires
 give_record-after-requires c = record_in c.args.list.now c.loop-k.k c.loop-k-test.true
 
-pub loop-k-smaller : goal.loop-k-smaller
-loop-k-smaller c = omega (arith, c.loop-k-test.true)
-
 pub loop-k-preserved : goal.loop-k-preserved
-loop-k-preserved c = (omega (arith, c.loop-k-test.true), give-next _ _ _ _ _ _ c.loop-k.invariant.1 _ refl c.give_record-after.ensures)
+loop-k-preserved c = give-next _ _ _ _ _ _ c.loop-k.invariant _ refl c.give_record-after.ensures
 
 pub returns : goal.returns
-returns c = give-end _ _ _ _ _ c.loop-k.invariant.1 c.loop-k.invariant.0 c.loop-k-test.false
+returns c = give-end _ _ _ _ _ c.loop-k.invariant c.loop-k.auto.k-end (omega arith)

@@ -1,14 +1,9 @@
 -- `fixing::temporaries::give_list` meets its contract: the tables are those of the records before k.
 -- Assumes nothing.
-use Prim.Native.Nat.{◌≤◌, ◌-◌}
 use mathlib.Core.Path.{◌≡◌}
 use Rattle.kinds.specs.Steps.{steps_of}
-use Rattle.lists.specs.Records.{record_count}
 use Rattle.fixing.specs.Machine.{tables, give_records}
 use Rattle.fixing.proofs.temporaries.give_list.Given as goal
 
 abbrev pub invariant-loop-k : goal.invariant-loop-k
-invariant-loop-k l = (l.k ≤ record_count l.list) × (tables l.plain l.primed l.after ≡ give_records l.rules (steps_of l.list l.k) (tables l.initial.plain l.initial.primed l.next))
-
-abbrev pub decreases-loop-k : goal.decreases-loop-k
-decreases-loop-k l = record_count l.list - l.k
+invariant-loop-k l = tables l.plain l.primed l.after ≡ give_records l.rules (steps_of l.list l.k) (tables l.initial.plain l.initial.primed l.next)

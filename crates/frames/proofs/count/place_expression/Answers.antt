@@ -1,17 +1,18 @@
--- `frames::count::place_expression` meets its contract: each answer by the tests that led to it.
+-- `frames::count::place_expression` meets its contract.
 -- Assumes nothing.
-use borrow.Author.Tests.{eq-eqb, ne_eqb, lt-ltb, le-ltb}
+use borrow.Author.Tests.{tests}
+use native.Mathlib.Omega.{arith}
 use Rattle.frames.specs.Order.{place_expression}
 use Rattle.frames.proofs.count.place_expression.Goals as goal
 
 pub returns-then-c-ne0 : goal.returns-then-c-ne0
 unfolding place_expression
-returns-then-c-ne0 c = simp (ne_eqb _ _ c.if-c-ne0.true)
+returns-then-c-ne0 c = grind (arith, tests)
 
 pub returns-then-c-ge-EXPRESSION_LIMIT : goal.returns-then-c-ge-EXPRESSION_LIMIT
 unfolding place_expression
-returns-then-c-ge-EXPRESSION_LIMIT c = simp (eq-eqb _ _ c.if-c-ne0.false, le-ltb _ _ c.if-c-ge-EXPRESSION_LIMIT.true)
+returns-then-c-ge-EXPRESSION_LIMIT c = grind (arith, tests)
 
 pub returns : goal.returns
 unfolding place_expression
-returns c = simp (eq-eqb _ _ c.if-c-ne0.false, lt-ltb _ _ c.if-c-ge-EXPRESSION_LIMIT.false)
+returns c = grind (arith, tests)

@@ -1,21 +1,18 @@
--- `frames::count::place_node` meets its contract: each answer by the tests that led to it.
+-- `frames::count::place_node` meets its contract.
 -- Assumes nothing.
-use borrow.Author.Tests.{eq-eqb, ne_eqb, lt-ltb, le-ltb}
+use borrow.Author.Tests.{tests}
+use native.Mathlib.Omega.{arith}
 use Rattle.frames.specs.Order.{place_node}
 use Rattle.frames.proofs.count.place_node.Goals as goal
 
 pub returns-then-c-ne0 : goal.returns-then-c-ne0
 unfolding place_node
-returns-then-c-ne0 c = simp (ne_eqb _ _ c.if-c-ne0.true)
-
-pub returns-then-c-ne0-2 : goal.returns-then-c-ne0-2
-unfolding place_node
-returns-then-c-ne0-2 c = simp (eq-eqb _ _ c.if-c-ne0.false, ne_eqb _ _ c.if-c-ne0-2.true)
+returns-then-c-ne0 c = grind (arith, tests)
 
 pub returns-then-c-ge-NODE_LIMIT : goal.returns-then-c-ge-NODE_LIMIT
 unfolding place_node
-returns-then-c-ge-NODE_LIMIT c = simp (eq-eqb _ _ c.if-c-ne0.false, eq-eqb _ _ c.if-c-ne0-2.false, le-ltb _ _ c.if-c-ge-NODE_LIMIT.true)
+returns-then-c-ge-NODE_LIMIT c = grind (arith, tests)
 
 pub returns : goal.returns
 unfolding place_node
-returns c = simp (eq-eqb _ _ c.if-c-ne0.false, eq-eqb _ _ c.if-c-ne0-2.false, lt-ltb _ _ c.if-c-ge-NODE_LIMIT.false)
+returns c = grind (arith, tests)

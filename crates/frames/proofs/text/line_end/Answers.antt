@@ -1,25 +1,24 @@
--- `frames::text::line_end` meets its contract. The loop's invariant: from here on the line ends where it ends.
+-- `frames::text::line_end` meets its contract.
 -- Assumes nothing.
+use mathlib.Core.Path.{◌≡◌, ap, ◌∙◌}
+use Prim.Native.Nat.{◌+◌, ◌-◌}
+use lib.ListN.{length, take, drop, length-drop}
+use borrow.Author.Rules.{rules}
+use borrow.Author.Tests.{tests}
 use native.Mathlib.Omega.{arith}
-use mathlib.Core.Path.{◌≡◌, ◌∙◌}
-use lib.ListN.{length}
-use Rattle.frames.proofs.Texts.{ending_start, ending_found, ending_more, ending_end}
+use Rattle.std.proofs.lemmas.List.{take_all}
+use Rattle.std.proofs.lemmas.Iterator.{IsFirst-from_position, YieldsList-from_slice}
+use Rattle.frames.specs.Text.{line_feed, first_end, end_at}
+use Rattle.frames.proofs.Texts.{first_by}
 use Rattle.frames.proofs.text.line_end.Goals as goal
 
-pub loop-i-init : goal.loop-i-init
-loop-i-init c = ending_start _ _ c.requires
-
-pub bounds-text-i : goal.bounds-text-i
-bounds-text-i c = omega arith
-
-pub returns-then-text-i-eq10 : goal.returns-then-text-i-eq10
-returns-then-text-i-eq10 c = ending_found _ _ _ c.loop-i.invariant c.loop-i-test.true c.if-text-i-eq10.true
-
-pub loop-i-smaller : goal.loop-i-smaller
-loop-i-smaller c = omega arith
-
-pub loop-i-preserved : goal.loop-i-preserved
-loop-i-preserved c = ending_more _ _ _ c.loop-i.invariant c.loop-i-test.true c.if-text-i-eq10.false
-
 pub returns : goal.returns
-returns c = let e : length c.args.text.now ≡ c.loop-i.i = omega (arith, c.requires) in e ∙ ending_end _ _ _ c.loop-i.invariant c.loop-i-test.false
+unfolding end_at
+returns c =
+    let line : take (length c.args.text.now - c.args.at) (drop c.args.at c.args.text.now) ≡ drop c.args.at c.args.text.now = take_all _ _ (simp length-drop (omega arith)) in
+    ap (λ n. c.args.at + n)
+    (c.unwrap_or.ensures
+    ∙ first_by _ _
+    (IsFirst-from_position _ _ _ (λ b. b ≡ line_feed) (λ b. b ≡ line_feed → ⊥) c.position.ensures.ran (YieldsList-from_slice (take (length c.args.text.now - c.args.at) (drop c.args.at c.args.text.now)) cc)
+    (λ x q k. search (rules, tests)) (λ x q k. search (rules, tests)))
+    ∙ ap first_end line)

@@ -77,13 +77,13 @@ pub node_degree-returns-in-3 : goal.node_degree-returns-in-3
 node_degree-returns-in-3 t c = λ l n m rank a. mul-gives a c.kind_at-kind.ensures c.child.ensures c.child-in-3.ensures (c.tree_degree-a.ensures l n m rank (part-asks a a.sound (left-part a c.kind_at-kind.ensures (omega (arith, c.in-3.is)) (omega (arith, c.in-3.is)) c.child.ensures))) (c.tree_degree-b.ensures l n m rank (part-asks a (c.tree_degree-a.ensures l n m rank (part-asks a a.sound (left-part a c.kind_at-kind.ensures (omega (arith, c.in-3.is)) (omega (arith, c.in-3.is)) c.child.ensures))).gives.sound (right-part a c.kind_at-kind.ensures (omega (arith, c.in-3.is)) (omega (arith, c.in-3.is)) c.child-in-3.ensures))) c.in-3.is c.times.ensures
 
 pub node_degree-returns-in-4 : goal.node_degree-returns-in-4
-node_degree-returns-in-4 t c = λ l n m rank a. muladd-gives a c.kind_at-kind.ensures c.child-in-4.ensures c.child-in-4-2.ensures (c.tree_degree-a-in-4.ensures l n m rank (part-asks a a.sound (first_part a c.kind_at-kind.ensures c.in-4.is c.child-in-4.ensures))) (c.tree_degree-b-in-4.ensures l n m rank (part-asks a (c.tree_degree-a-in-4.ensures l n m rank (part-asks a a.sound (first_part a c.kind_at-kind.ensures c.in-4.is c.child-in-4.ensures))).gives.sound (second-part a c.kind_at-kind.ensures c.in-4.is c.child-in-4-2.ensures))) c.in-4.is c.child-in-4-3.ensures (c.tree_degree-c.ensures l n m rank (part-asks a (c.tree_degree-b-in-4.ensures l n m rank (part-asks a (c.tree_degree-a-in-4.ensures l n m rank (part-asks a a.sound (first_part a c.kind_at-kind.ensures c.in-4.is c.child-in-4.ensures))).gives.sound (second-part a c.kind_at-kind.ensures c.in-4.is c.child-in-4-2.ensures))).gives.sound (third-part a c.kind_at-kind.ensures c.in-4.is c.child-in-4-3.ensures))) c.times-in-4.ensures c.larger.ensures
+node_degree-returns-in-4 t c = λ l n m rank a. muladd-gives a c.kind_at-kind.ensures c.child-in-4.ensures c.child-in-4-2.ensures (c.tree_degree-a-in-4.ensures l n m rank (part-asks a a.sound (first_part a c.kind_at-kind.ensures c.in-4.is c.child-in-4.ensures))) (c.tree_degree-b-in-4.ensures l n m rank (part-asks a (c.tree_degree-a-in-4.ensures l n m rank (part-asks a a.sound (first_part a c.kind_at-kind.ensures c.in-4.is c.child-in-4.ensures))).gives.sound (second-part a c.kind_at-kind.ensures c.in-4.is c.child-in-4-2.ensures))) c.in-4.is c.child-in-4-3.ensures (c.tree_degree-c.ensures l n m rank (part-asks a (c.tree_degree-b-in-4.ensures l n m rank (part-asks a (c.tree_degree-a-in-4.ensures l n m rank (part-asks a a.sound (first_part a c.kind_at-kind.ensures c.in-4.is c.child-in-4.ensures))).gives.sound (second-part a c.kind_at-kind.ensures c.in-4.is c.child-in-4-2.ensures))).gives.sound (third-part a c.kind_at-kind.ensures c.in-4.is c.child-in-4-3.ensures))) c.times-in-4.ensures c.max.ensures
 
 pub node_degree-returns-in-1-to-2 : goal.node_degree-returns-in-1-to-2
-node_degree-returns-in-1-to-2 t c = λ l n m rank a. sum-gives a c.kind_at-kind.ensures c.child-in-1-to-2.ensures c.child-in-1-to-2-2.ensures (c.tree_degree-a-in-1-to-2.ensures l n m rank (part-asks a a.sound (left-part a c.kind_at-kind.ensures c.in-1-to-2.if-kind-lt1-own.false (omega (arith, c.in-1-to-2.if-kind-lt3-own.true)) c.child-in-1-to-2.ensures))) (c.tree_degree-b-in-1-to-2.ensures l n m rank (part-asks a (c.tree_degree-a-in-1-to-2.ensures l n m rank (part-asks a a.sound (left-part a c.kind_at-kind.ensures c.in-1-to-2.if-kind-lt1-own.false (omega (arith, c.in-1-to-2.if-kind-lt3-own.true)) c.child-in-1-to-2.ensures))).gives.sound (right-part a c.kind_at-kind.ensures c.in-1-to-2.if-kind-lt1-own.false (omega (arith, c.in-1-to-2.if-kind-lt3-own.true)) c.child-in-1-to-2-2.ensures))) c.in-1-to-2.if-kind-lt1-own.false (omega (arith, c.in-1-to-2.if-kind-lt3-own.true)) c.larger-in-1-to-2.ensures c.larger-in-1-to-2-2.ensures
+node_degree-returns-in-1-to-2 t c = λ l n m rank a. sum-gives a c.kind_at-kind.ensures c.child-in-1-to-2.ensures c.child-in-1-to-2-2.ensures (c.tree_degree-a-in-1-to-2.ensures l n m rank (part-asks a a.sound (left-part a c.kind_at-kind.ensures c.in-1-to-2.if-kind-lt1-own.false (omega (arith, c.in-1-to-2.if-kind-lt3-own.true)) c.child-in-1-to-2.ensures))) (c.tree_degree-b-in-1-to-2.ensures l n m rank (part-asks a (c.tree_degree-a-in-1-to-2.ensures l n m rank (part-asks a a.sound (left-part a c.kind_at-kind.ensures c.in-1-to-2.if-kind-lt1-own.false (omega (arith, c.in-1-to-2.if-kind-lt3-own.true)) c.child-in-1-to-2.ensures))).gives.sound (right-part a c.kind_at-kind.ensures c.in-1-to-2.if-kind-lt1-own.false (omega (arith, c.in-1-to-2.if-kind-lt3-own.true)) c.child-in-1-to-2-2.ensures))) c.in-1-to-2.if-kind-lt1-own.false (omega (arith, c.in-1-to-2.if-kind-lt3-own.true)) c.max-in-1-to-2.ensures c.max-in-1-to-2-2.ensures
 
 pub node_degree-returns-in-5-to-7 : goal.node_degree-returns-in-5-to-7
-node_degree-returns-in-5-to-7 t c = λ l n m rank a. single-gives a c.kind_at-kind.ensures (omega (arith, c.in-5-to-7.if-kind-lt3-own.false, c.in-5-to-7.in_default-own.rest.0.1, c.in-5-to-7.in_default-own.rest.1)) (omega (arith, c.in-5-to-7.if-kind-lt8-own.true)) c.child-in-5-to-7.ensures (c.tree_degree-a-in-5-to-7.ensures l n m rank (part-asks a a.sound (only_part a c.kind_at-kind.ensures (omega (arith, c.in-5-to-7.if-kind-lt3-own.false, c.in-5-to-7.in_default-own.rest.0.1, c.in-5-to-7.in_default-own.rest.1)) (omega (arith, c.in-5-to-7.if-kind-lt8-own.true)) c.child-in-5-to-7.ensures))) c.larger-in-5-to-7.ensures
+node_degree-returns-in-5-to-7 t c = λ l n m rank a. single-gives a c.kind_at-kind.ensures (omega (arith, c.in-5-to-7.if-kind-lt3-own.false, c.in-5-to-7.in_default-own.rest.0.1, c.in-5-to-7.in_default-own.rest.1)) (omega (arith, c.in-5-to-7.if-kind-lt8-own.true)) c.child-in-5-to-7.ensures (c.tree_degree-a-in-5-to-7.ensures l n m rank (part-asks a a.sound (only_part a c.kind_at-kind.ensures (omega (arith, c.in-5-to-7.if-kind-lt3-own.false, c.in-5-to-7.in_default-own.rest.0.1, c.in-5-to-7.in_default-own.rest.1)) (omega (arith, c.in-5-to-7.if-kind-lt8-own.true)) c.child-in-5-to-7.ensures))) c.max-in-5-to-7.ensures
 
 pub node_degree-returns-in_default : goal.node_degree-returns-in_default
 node_degree-returns-in_default t c = λ l n m rank a. elim c.in_default.branch [

@@ -9,10 +9,7 @@ pub returns-then-list-ne0 : goal.returns-then-list-ne0
 returns-then-list-ne0 c = good-cut _ c.if-list-ne0.true
 
 pub loop-k-init : goal.loop-k-init
-loop-k-init c = (omega arith, good-begin _)
-
-pub overflow_mul-k : goal.overflow_mul-k
-overflow_mul-k c = omega (arith, record_in c.args.list.now c.loop-k.k c.loop-k-test.true, c.well_formed)
+loop-k-init c = good-begin _
 
 pub good_record-requires : goal.good_record-requires
 good_record-requires c = record_in c.args.list.now c.loop-k.k c.loop-k-test.true
@@ -20,11 +17,8 @@ good_record-requires c = record_in c.args.list.now c.loop-k.k c.loop-k-test.true
 pub returns-then-not-good_record : goal.returns-then-not-good_record
 returns-then-not-good_record c = good-stop _ _ _ refl _ c.good_record.ensures c.loop-k-test.true c.if-list-ne0.false c.if-not-good_record.true
 
-pub loop-k-smaller : goal.loop-k-smaller
-loop-k-smaller c = omega arith
-
 pub loop-k-preserved : goal.loop-k-preserved
-loop-k-preserved c = (omega arith, good-next _ _ _ refl _ c.good_record.ensures c.loop-k.invariant.1 c.if-not-good_record.false)
+loop-k-preserved c = good-next _ _ _ refl _ c.good_record.ensures c.loop-k.invariant c.if-not-good_record.false
 
 pub returns : goal.returns
-returns c = good-end _ _ c.loop-k.invariant.1 c.loop-k.invariant.0 c.loop-k-test.false c.if-list-ne0.false
+returns c = good-end _ _ c.loop-k.invariant c.loop-k.auto.k-end (omega arith) c.if-list-ne0.false

@@ -36,7 +36,7 @@ pub overflow_add-size-4 : goal.overflow_add-size-4
 overflow_add-size-4 c = omega (arith, records-few c.requires.1, c.cm_count-cms.ensures.low, columns-few c.requires.1, c.column_expressions-count.ensures.count, c.requires.1.few)
 
 pub returns-then-out-size : goal.returns-then-out-size
-returns-then-out-size c = λ p d. no_room d c.cm_count-cms.ensures.is c.column_expressions-count.ensures.count c.args.out.now c.if-out-size.true
+returns-then-out-size c = λ p d. rw c.into.ensures (no_room d c.cm_count-cms.ensures.is c.column_expressions-count.ensures.count c.args.out.now c.if-out-size.true)
 
 pub put_sections-records-requires : goal.put_sections-records-requires
 put_sections-records-requires c = sections-asked c.requires.1 c.cm_count-cms.ensures.is c.column_expressions-count.ensures.count _ (omega (arith, c.if-out-size.false))

@@ -1,10 +1,12 @@
 -- `plan_walks::dimension::first_planned` meets its contract: the pass with the plan's records (proofs/Dims.antt). Assumes nothing.
-use mathlib.Core.Path.{refl}
+use mathlib.Core.Path.{refl, sym, ap}
 use mathlib.Core.Bool.{false}
 use native.Mathlib.Omega.{arith}
 use lib.ListN.{length-take}
 use Rattle.plan_tables.specs.Listed.{listed_front, listed-size}
 use Rattle.plan_walks.proofs.Fixes.{cms-asked, cms-room, cms_are, fitting}
+use Rattle.std.proofs.lemmas.Result.{err_from_is_err_and}
+use Rattle.plan_walks.specs.Dimension.{dimensioned_says}
 use Rattle.plan_walks.proofs.Dims.{dimensioned_planned}
 use Rattle.plan_walks.proofs.dimension.first_planned.Goals as goal
 
@@ -27,4 +29,7 @@ pub slice_bounds-set_code_dimensions_first-end-2 : goal.slice_bounds-set_code_di
 slice_bounds-set_code_dimensions_first-end-2 c = simp length-take (omega (arith, c.fill_qs-q.ensures.1, listed-size c.fill_qs-q.ensures.0))
 
 pub returns : goal.returns
-returns c = λ w x cs z a e. dimensioned_planned z e (cms_are z a false refl c.fill_cms-n.ensures) (listed_front c.fill_qs-q.ensures.0 (omega (arith, c.fill_qs-q.ensures.1, c.fill_qs-q.ensures.0.count))) c.set_code_dimensions_first.ensures c.told.ensures
+returns c = λ w x cs z a e. dimensioned_planned z e (cms_are z a false refl c.fill_cms-n.ensures) (listed_front c.fill_qs-q.ensures.0 (omega (arith, c.fill_qs-q.ensures.1, c.fill_qs-q.ensures.0.count))) c.set_code_dimensions_first.ensures (ap dimensioned_says (sym c.in_ok-set_code_dimensions_first.was))
+
+pub returns-in_err-set_code_dimensions_first : goal.returns-in_err-set_code_dimensions_first
+returns-in_err-set_code_dimensions_first c = λ w x cs z a e. dimensioned_planned z e (cms_are z a false refl c.fill_cms-n.ensures) (listed_front c.fill_qs-q.ensures.0 (omega (arith, c.fill_qs-q.ensures.1, c.fill_qs-q.ensures.0.count))) c.set_code_dimensions_first.ensures (let p = err_from_is_err_and c.from_residual.result c.from_residual.ensures.1 in rw (p.1, p.2) (ap dimensioned_says (sym c.in_err-set_code_dimensions_first.was)))

@@ -1,5 +1,6 @@
 -- `plan_walks::fix::fix_planned` meets its contract: fixing with the plan's rules and records (proofs/Fixes.antt). Assumes nothing.
 use mathlib.Core.Path.{refl, sym, ap}
+use Rattle.std.proofs.lemmas.Result.{err_from_is_err_and}
 use native.Mathlib.Omega.{arith}
 use lib.ListN.{length-take}
 use Rattle.fixing.specs.Answers.{fixed_says}
@@ -18,17 +19,8 @@ slice_bounds-cms-end c = omega (arith, cms-room c.requires.0 c.requires.1 c.args
 pub slice_bounds-fix_prover_code-end : goal.slice_bounds-fix_prover_code-end
 slice_bounds-fix_prover_code-end c = simp length-take (omega (arith, cms-room c.requires.0 c.requires.1 c.args.in_n refl c.fill_cms-n.ensures))
 
-pub returns-in-Malformed : goal.returns-in-Malformed
-returns-in-Malformed c = λ z a. fixed-planned z c.args.in_n (c.fill_plan_rules.ensures z) (cms_are z a c.args.in_n refl c.fill_cms-n.ensures) c.fix_prover_code.ensures (ap fixed_says (sym c.in-Malformed.is))
+pub returns : goal.returns
+returns c = λ z a. fixed-planned z c.args.in_n (c.fill_plan_rules.ensures z) (cms_are z a c.args.in_n refl c.fill_cms-n.ensures) c.fix_prover_code.ensures (ap fixed_says (sym c.in_ok-fix_prover_code.was))
 
-pub returns-in-NotThere : goal.returns-in-NotThere
-returns-in-NotThere c = λ z a. fixed-planned z c.args.in_n (c.fill_plan_rules.ensures z) (cms_are z a c.args.in_n refl c.fill_cms-n.ensures) c.fix_prover_code.ensures (ap fixed_says (sym c.in-NotThere.is))
-
-pub returns-in-NoRule : goal.returns-in-NoRule
-returns-in-NoRule c = λ z a. fixed-planned z c.args.in_n (c.fill_plan_rules.ensures z) (cms_are z a c.args.in_n refl c.fill_cms-n.ensures) c.fix_prover_code.ensures (ap fixed_says (sym c.in-NoRule.is))
-
-pub returns-in-Full : goal.returns-in-Full
-returns-in-Full c = λ z a. fixed-planned z c.args.in_n (c.fill_plan_rules.ensures z) (cms_are z a c.args.in_n refl c.fill_cms-n.ensures) c.fix_prover_code.ensures (ap fixed_says (sym c.in-Full.is))
-
-pub returns-in-Done : goal.returns-in-Done
-returns-in-Done c = λ z a. fixed-planned z c.args.in_n (c.fill_plan_rules.ensures z) (cms_are z a c.args.in_n refl c.fill_cms-n.ensures) c.fix_prover_code.ensures (ap fixed_says (sym c.in-Done.is))
+pub returns-in_err-fix_prover_code : goal.returns-in_err-fix_prover_code
+returns-in_err-fix_prover_code c = λ z a. fixed-planned z c.args.in_n (c.fill_plan_rules.ensures z) (cms_are z a c.args.in_n refl c.fill_cms-n.ensures) c.fix_prover_code.ensures (let p = err_from_is_err_and c.from_residual.result c.from_residual.ensures.1 in rw (p.1, p.2) (ap fixed_says (sym c.in_err-fix_prover_code.was)))

@@ -6,13 +6,13 @@ pub bits_good-requires : goal.bits_good-requires
 bits_good-requires c = headed c.requires.3
 
 pub returns-then-not-bits_good : goal.returns-then-not-bits_good
-returns-then-not-bits_good c = λ l n rank a. bits-refuse a c.bits_good.ensures c.if-not-bits_good.true
+returns-then-not-bits_good c = λ l n rank a. rw c.into.ensures (bits-refuse a c.bits_good.ensures c.if-not-bits_good.true)
 
 pub counts_agree-requires : goal.counts_agree-requires
 counts_agree-requires c = headed c.requires.3
 
 pub returns-then-not-counts_agree : goal.returns-then-not-counts_agree
-returns-then-not-counts_agree c = λ l n rank a. counts-refuse a c.bits_good.ensures c.if-not-bits_good.false c.counts_agree.ensures c.if-not-counts_agree.true
+returns-then-not-counts_agree c = λ l n rank a. rw c.into-then-not-counts_agree.ensures (counts-refuse a c.bits_good.ensures c.if-not-bits_good.false c.counts_agree.ensures c.if-not-counts_agree.true)
 
 pub map_all-records-requires : goal.map_all-records-requires
 map_all-records-requires c = (c.requires.0, c.requires.1, c.args.m, c.requires.2, all-asks c.requires.3 c.bits_good.ensures c.if-not-bits_good.false c.counts_agree.ensures c.if-not-counts_agree.false)
@@ -24,7 +24,7 @@ pub shape_of-cmdims-then-some_none : goal.shape_of-cmdims-then-some_none
 shape_of-cmdims-then-some_none c = cm-same c.requires.3 c.bits_good.ensures c.if-not-bits_good.false c.counts_agree.ensures c.if-not-counts_agree.false (c.map_all-records.ensures c.requires.0 c.requires.1 c.args.m c.requires.2 (all-asks c.requires.3 c.bits_good.ensures c.if-not-bits_good.false c.counts_agree.ensures c.if-not-counts_agree.false))
 
 pub returns-then-some_none : goal.returns-then-some_none
-returns-then-some_none c = λ l n rank a. dims-refuse a c.bits_good.ensures c.if-not-bits_good.false c.counts_agree.ensures c.if-not-counts_agree.false (c.map_all-records.ensures l n c.args.m rank (all-asks a c.bits_good.ensures c.if-not-bits_good.false c.counts_agree.ensures c.if-not-counts_agree.false)) c.some_none.ensures c.if-some_none.true
+returns-then-some_none c = λ l n rank a. rw c.into-then-some_none.ensures (dims-refuse a c.bits_good.ensures c.if-not-bits_good.false c.counts_agree.ensures c.if-not-counts_agree.false (c.map_all-records.ensures l n c.args.m rank (all-asks a c.bits_good.ensures c.if-not-bits_good.false c.counts_agree.ensures c.if-not-counts_agree.false)) c.some_none.ensures c.if-some_none.true)
 
 pub shape_of-cmdims : goal.shape_of-cmdims
 shape_of-cmdims c = cm-same c.requires.3 c.bits_good.ensures c.if-not-bits_good.false c.counts_agree.ensures c.if-not-counts_agree.false (c.map_all-records.ensures c.requires.0 c.requires.1 c.args.m c.requires.2 (all-asks c.requires.3 c.bits_good.ensures c.if-not-bits_good.false c.counts_agree.ensures c.if-not-counts_agree.false))

@@ -3,7 +3,7 @@
 use native.Mathlib.Omega.{arith}
 use mathlib.Core.Path.{refl}
 use mathlib.Core.Logic.{inl}
-use Rattle.pool.proofs.Ranks.{few-after, ranked-not, cycle-is, still, back-again, enter, enter_less, leave}
+use Rattle.pool.proofs.Ranks.{few-after, ranked-some, cycle-is, still, back-again, enter, enter_less, leave}
 use Rattle.pool.proofs.Children.{room, exp-asks, exp-gives, q-past, q-asks, q-gives, leaf-gives, asks0, less0, one-gives, asks1, less1, two-gives, asks2, less2, three-gives}
 use Rattle.pool.proofs.rank.+visit_walk.Goals as goal
 
@@ -28,14 +28,14 @@ visit-bounds-ranks-e-2 t c = let a = c.requires.3 in omega (arith, a.there, a.st
 pub visit-root-requires : goal.visit-root-requires
 visit-root-requires t c = let a = c.requires.3 in omega (arith, a.there, a.state.few_expressions)
 
-pub visit-walk-before-requires : goal.visit-walk-before-requires
-visit-walk-before-requires t c = let a = c.requires.3 in (omega (arith, c.requires.0, enter_less _ _ a c.if-rank-ge-RANKED.false c.if-rank-eq-REACHED.false c.root.ensures), (c.requires.0, c.requires.1, c.requires.2, enter _ _ a c.if-rank-ge-RANKED.false c.if-rank-eq-REACHED.false c.root.ensures))
+pub visit-walk-requires : goal.visit-walk-requires
+visit-walk-requires t c = let a = c.requires.3 in (omega (arith, c.requires.0, enter_less _ _ a c.if-rank-ge-RANKED.false c.if-rank-eq-REACHED.false c.root.ensures), (c.requires.0, c.requires.1, c.requires.2, enter _ _ a c.if-rank-ge-RANKED.false c.if-rank-eq-REACHED.false c.root.ensures))
 
-pub visit-returns-then-before-eq-CYCLE : goal.visit-returns-then-before-eq-CYCLE
-visit-returns-then-before-eq-CYCLE t c = λ l n m a. inl (refl, cycle-is _ _ (c.walk-before.ensures l n m (enter _ _ a c.if-rank-ge-RANKED.false c.if-rank-eq-REACHED.false c.root.ensures)) c.if-before-eq-CYCLE.true)
+pub visit-returns-in_err-before : goal.visit-returns-in_err-before
+visit-returns-in_err-before t c = λ l n m a. rw c.from_residual.ensures (inl (refl, cycle-is _ _ (c.walk.ensures l n m (enter _ _ a c.if-rank-ge-RANKED.false c.if-rank-eq-REACHED.false c.root.ensures)) c.in_err-before.was))
 
 pub visit-overflow_add-ranks : goal.visit-overflow_add-ranks
-visit-overflow_add-ranks t c = omega (arith, few-after _ _ (c.walk-before.ensures c.requires.0 c.requires.1 c.requires.2 (enter _ _ c.requires.3 c.if-rank-ge-RANKED.false c.if-rank-eq-REACHED.false c.root.ensures)) c.if-before-eq-CYCLE.false)
+visit-overflow_add-ranks t c = omega (arith, few-after _ _ (c.walk.ensures c.requires.0 c.requires.1 c.requires.2 (enter _ _ c.requires.3 c.if-rank-ge-RANKED.false c.if-rank-eq-REACHED.false c.root.ensures)) c.in_ok-before.was)
 
 pub visit-offset_bounds-ranks-e-3 : goal.visit-offset_bounds-ranks-e-3
 visit-offset_bounds-ranks-e-3 t c = let a = c.requires.3 in omega (arith, a.there, a.state.few_expressions)
@@ -44,10 +44,10 @@ pub visit-bounds-ranks-e-3 : goal.visit-bounds-ranks-e-3
 visit-bounds-ranks-e-3 t c = let a = c.requires.3 in omega (arith, a.there, a.state.few_expressions)
 
 pub visit-overflow_add-result : goal.visit-overflow_add-result
-visit-overflow_add-result t c = omega (arith, few-after _ _ (c.walk-before.ensures c.requires.0 c.requires.1 c.requires.2 (enter _ _ c.requires.3 c.if-rank-ge-RANKED.false c.if-rank-eq-REACHED.false c.root.ensures)) c.if-before-eq-CYCLE.false)
+visit-overflow_add-result t c = omega (arith, few-after _ _ (c.walk.ensures c.requires.0 c.requires.1 c.requires.2 (enter _ _ c.requires.3 c.if-rank-ge-RANKED.false c.if-rank-eq-REACHED.false c.root.ensures)) c.in_ok-before.was)
 
 pub visit-returns : goal.visit-returns
-visit-returns t c = λ l n m a. leave _ _ a c.if-rank-ge-RANKED.false c.if-rank-eq-REACHED.false c.root.ensures (ranked-not _ _ (c.walk-before.ensures l n m (enter _ _ a c.if-rank-ge-RANKED.false c.if-rank-eq-REACHED.false c.root.ensures)) c.if-before-eq-CYCLE.false)
+visit-returns t c = λ l n m a. leave _ _ a c.if-rank-ge-RANKED.false c.if-rank-eq-REACHED.false c.root.ensures (ranked-some _ _ (c.walk.ensures l n m (enter _ _ a c.if-rank-ge-RANKED.false c.if-rank-eq-REACHED.false c.root.ensures)) c.in_ok-before.was)
 
 pub walk-kind_at-kind-requires : goal.walk-kind_at-kind-requires
 walk-kind_at-kind-requires t c = room _ _ c.requires.3
@@ -88,32 +88,32 @@ walk-returns-then-count-eq0 t c = λ l n m a. leaf-gives _ _ a c.kind_at-kind.en
 pub walk-child-requires : goal.walk-child-requires
 walk-child-requires t c = room _ _ c.requires.3
 
-pub walk-walk-first-requires : goal.walk-walk-first-requires
-walk-walk-first-requires t c = let a = c.requires.3 in (omega (arith, c.requires.0, less0 _ _ a c.count_at-count.ensures c.if-count-eq0.false c.child.ensures), (c.requires.0, c.requires.1, c.requires.2, asks0 _ _ a c.count_at-count.ensures c.if-count-eq0.false c.child.ensures))
+pub walk-walk-requires : goal.walk-walk-requires
+walk-walk-requires t c = let a = c.requires.3 in (omega (arith, c.requires.0, less0 _ _ a c.count_at-count.ensures c.if-count-eq0.false c.child.ensures), (c.requires.0, c.requires.1, c.requires.2, asks0 _ _ a c.count_at-count.ensures c.if-count-eq0.false c.child.ensures))
 
-pub walk-returns-then-first-eq-CYCLE : goal.walk-returns-then-first-eq-CYCLE
-walk-returns-then-first-eq-CYCLE t c = λ l n m a. inl (refl, cycle-is _ _ (c.walk-first.ensures l n m (asks0 _ _ a c.count_at-count.ensures c.if-count-eq0.false c.child.ensures)) c.if-first-eq-CYCLE.true)
+pub walk-returns-in_err-first : goal.walk-returns-in_err-first
+walk-returns-in_err-first t c = λ l n m a. rw c.from_residual.ensures (inl (refl, cycle-is _ _ (c.walk.ensures l n m (asks0 _ _ a c.count_at-count.ensures c.if-count-eq0.false c.child.ensures)) c.in_err-first.was))
 
 pub walk-returns-then-count-eq1 : goal.walk-returns-then-count-eq1
-walk-returns-then-count-eq1 t c = λ l n m a. one-gives _ _ a c.count_at-count.ensures c.if-count-eq0.false c.child.ensures (c.walk-first.ensures l n m (asks0 _ _ a c.count_at-count.ensures c.if-count-eq0.false c.child.ensures)) c.if-first-eq-CYCLE.false c.if-count-eq1.true
+walk-returns-then-count-eq1 t c = λ l n m a. one-gives _ _ a c.count_at-count.ensures c.if-count-eq0.false c.child.ensures (c.walk.ensures l n m (asks0 _ _ a c.count_at-count.ensures c.if-count-eq0.false c.child.ensures)) c.in_ok-first.was c.if-count-eq1.true
 
 pub walk-child-requires-2 : goal.walk-child-requires-2
 walk-child-requires-2 t c = room _ _ c.requires.3
 
-pub walk-walk-second-requires : goal.walk-walk-second-requires
-walk-walk-second-requires t c = let a = c.requires.3 in (omega (arith, c.requires.0, less1 _ _ a c.count_at-count.ensures c.if-count-eq0.false c.child.ensures (c.walk-first.ensures c.requires.0 c.requires.1 c.requires.2 (asks0 _ _ a c.count_at-count.ensures c.if-count-eq0.false c.child.ensures)) c.if-first-eq-CYCLE.false c.if-count-eq1.false c.child-2.ensures), (c.requires.0, c.requires.1, c.requires.2, asks1 _ _ a c.count_at-count.ensures c.if-count-eq0.false c.child.ensures (c.walk-first.ensures c.requires.0 c.requires.1 c.requires.2 (asks0 _ _ a c.count_at-count.ensures c.if-count-eq0.false c.child.ensures)) c.if-first-eq-CYCLE.false c.if-count-eq1.false c.child-2.ensures))
+pub walk-walk-requires-2 : goal.walk-walk-requires-2
+walk-walk-requires-2 t c = let a = c.requires.3 in (omega (arith, c.requires.0, less1 _ _ a c.count_at-count.ensures c.if-count-eq0.false c.child.ensures (c.walk.ensures c.requires.0 c.requires.1 c.requires.2 (asks0 _ _ a c.count_at-count.ensures c.if-count-eq0.false c.child.ensures)) c.in_ok-first.was c.if-count-eq1.false c.child-2.ensures), (c.requires.0, c.requires.1, c.requires.2, asks1 _ _ a c.count_at-count.ensures c.if-count-eq0.false c.child.ensures (c.walk.ensures c.requires.0 c.requires.1 c.requires.2 (asks0 _ _ a c.count_at-count.ensures c.if-count-eq0.false c.child.ensures)) c.in_ok-first.was c.if-count-eq1.false c.child-2.ensures))
 
-pub walk-returns-then-second-eq-CYCLE : goal.walk-returns-then-second-eq-CYCLE
-walk-returns-then-second-eq-CYCLE t c = λ l n m a. inl (refl, cycle-is _ _ (c.walk-second.ensures l n m (asks1 _ _ a c.count_at-count.ensures c.if-count-eq0.false c.child.ensures (c.walk-first.ensures l n m (asks0 _ _ a c.count_at-count.ensures c.if-count-eq0.false c.child.ensures)) c.if-first-eq-CYCLE.false c.if-count-eq1.false c.child-2.ensures)) c.if-second-eq-CYCLE.true)
+pub walk-returns-in_err-second : goal.walk-returns-in_err-second
+walk-returns-in_err-second t c = λ l n m a. rw c.from_residual-in_err-second.ensures (inl (refl, cycle-is _ _ (c.walk-2.ensures l n m (asks1 _ _ a c.count_at-count.ensures c.if-count-eq0.false c.child.ensures (c.walk.ensures l n m (asks0 _ _ a c.count_at-count.ensures c.if-count-eq0.false c.child.ensures)) c.in_ok-first.was c.if-count-eq1.false c.child-2.ensures)) c.in_err-second.was))
 
 pub walk-returns-then-count-eq2 : goal.walk-returns-then-count-eq2
-walk-returns-then-count-eq2 t c = λ l n m a. two-gives _ _ a c.count_at-count.ensures c.if-count-eq0.false c.child.ensures (c.walk-first.ensures l n m (asks0 _ _ a c.count_at-count.ensures c.if-count-eq0.false c.child.ensures)) c.if-first-eq-CYCLE.false c.if-count-eq1.false c.child-2.ensures (c.walk-second.ensures l n m (asks1 _ _ a c.count_at-count.ensures c.if-count-eq0.false c.child.ensures (c.walk-first.ensures l n m (asks0 _ _ a c.count_at-count.ensures c.if-count-eq0.false c.child.ensures)) c.if-first-eq-CYCLE.false c.if-count-eq1.false c.child-2.ensures)) c.if-second-eq-CYCLE.false c.if-count-eq2.true
+walk-returns-then-count-eq2 t c = λ l n m a. two-gives _ _ a c.count_at-count.ensures c.if-count-eq0.false c.child.ensures (c.walk.ensures l n m (asks0 _ _ a c.count_at-count.ensures c.if-count-eq0.false c.child.ensures)) c.in_ok-first.was c.if-count-eq1.false c.child-2.ensures (c.walk-2.ensures l n m (asks1 _ _ a c.count_at-count.ensures c.if-count-eq0.false c.child.ensures (c.walk.ensures l n m (asks0 _ _ a c.count_at-count.ensures c.if-count-eq0.false c.child.ensures)) c.in_ok-first.was c.if-count-eq1.false c.child-2.ensures)) c.in_ok-second.was c.if-count-eq2.true
 
 pub walk-child-requires-3 : goal.walk-child-requires-3
 walk-child-requires-3 t c = room _ _ c.requires.3
 
-pub walk-walk-requires : goal.walk-walk-requires
-walk-walk-requires t c = let a = c.requires.3 in (omega (arith, c.requires.0, less2 _ _ a c.count_at-count.ensures c.if-count-eq0.false c.child.ensures (c.walk-first.ensures c.requires.0 c.requires.1 c.requires.2 (asks0 _ _ a c.count_at-count.ensures c.if-count-eq0.false c.child.ensures)) c.if-first-eq-CYCLE.false c.if-count-eq1.false c.child-2.ensures (c.walk-second.ensures c.requires.0 c.requires.1 c.requires.2 (asks1 _ _ a c.count_at-count.ensures c.if-count-eq0.false c.child.ensures (c.walk-first.ensures c.requires.0 c.requires.1 c.requires.2 (asks0 _ _ a c.count_at-count.ensures c.if-count-eq0.false c.child.ensures)) c.if-first-eq-CYCLE.false c.if-count-eq1.false c.child-2.ensures)) c.if-second-eq-CYCLE.false c.if-count-eq2.false c.child-3.ensures), (c.requires.0, c.requires.1, c.requires.2, asks2 _ _ a c.count_at-count.ensures c.if-count-eq0.false c.child.ensures (c.walk-first.ensures c.requires.0 c.requires.1 c.requires.2 (asks0 _ _ a c.count_at-count.ensures c.if-count-eq0.false c.child.ensures)) c.if-first-eq-CYCLE.false c.if-count-eq1.false c.child-2.ensures (c.walk-second.ensures c.requires.0 c.requires.1 c.requires.2 (asks1 _ _ a c.count_at-count.ensures c.if-count-eq0.false c.child.ensures (c.walk-first.ensures c.requires.0 c.requires.1 c.requires.2 (asks0 _ _ a c.count_at-count.ensures c.if-count-eq0.false c.child.ensures)) c.if-first-eq-CYCLE.false c.if-count-eq1.false c.child-2.ensures)) c.if-second-eq-CYCLE.false c.if-count-eq2.false c.child-3.ensures))
+pub walk-walk-requires-3 : goal.walk-walk-requires-3
+walk-walk-requires-3 t c = let a = c.requires.3 in (omega (arith, c.requires.0, less2 _ _ a c.count_at-count.ensures c.if-count-eq0.false c.child.ensures (c.walk.ensures c.requires.0 c.requires.1 c.requires.2 (asks0 _ _ a c.count_at-count.ensures c.if-count-eq0.false c.child.ensures)) c.in_ok-first.was c.if-count-eq1.false c.child-2.ensures (c.walk-2.ensures c.requires.0 c.requires.1 c.requires.2 (asks1 _ _ a c.count_at-count.ensures c.if-count-eq0.false c.child.ensures (c.walk.ensures c.requires.0 c.requires.1 c.requires.2 (asks0 _ _ a c.count_at-count.ensures c.if-count-eq0.false c.child.ensures)) c.in_ok-first.was c.if-count-eq1.false c.child-2.ensures)) c.in_ok-second.was c.if-count-eq2.false c.child-3.ensures), (c.requires.0, c.requires.1, c.requires.2, asks2 _ _ a c.count_at-count.ensures c.if-count-eq0.false c.child.ensures (c.walk.ensures c.requires.0 c.requires.1 c.requires.2 (asks0 _ _ a c.count_at-count.ensures c.if-count-eq0.false c.child.ensures)) c.in_ok-first.was c.if-count-eq1.false c.child-2.ensures (c.walk-2.ensures c.requires.0 c.requires.1 c.requires.2 (asks1 _ _ a c.count_at-count.ensures c.if-count-eq0.false c.child.ensures (c.walk.ensures c.requires.0 c.requires.1 c.requires.2 (asks0 _ _ a c.count_at-count.ensures c.if-count-eq0.false c.child.ensures)) c.in_ok-first.was c.if-count-eq1.false c.child-2.ensures)) c.in_ok-second.was c.if-count-eq2.false c.child-3.ensures))
 
 pub walk-returns : goal.walk-returns
-walk-returns t c = λ l n m a. three-gives _ _ a c.count_at-count.ensures c.if-count-eq0.false c.child.ensures (c.walk-first.ensures l n m (asks0 _ _ a c.count_at-count.ensures c.if-count-eq0.false c.child.ensures)) c.if-first-eq-CYCLE.false c.if-count-eq1.false c.child-2.ensures (c.walk-second.ensures l n m (asks1 _ _ a c.count_at-count.ensures c.if-count-eq0.false c.child.ensures (c.walk-first.ensures l n m (asks0 _ _ a c.count_at-count.ensures c.if-count-eq0.false c.child.ensures)) c.if-first-eq-CYCLE.false c.if-count-eq1.false c.child-2.ensures)) c.if-second-eq-CYCLE.false c.if-count-eq2.false c.child-3.ensures (c.walk.ensures l n m (asks2 _ _ a c.count_at-count.ensures c.if-count-eq0.false c.child.ensures (c.walk-first.ensures l n m (asks0 _ _ a c.count_at-count.ensures c.if-count-eq0.false c.child.ensures)) c.if-first-eq-CYCLE.false c.if-count-eq1.false c.child-2.ensures (c.walk-second.ensures l n m (asks1 _ _ a c.count_at-count.ensures c.if-count-eq0.false c.child.ensures (c.walk-first.ensures l n m (asks0 _ _ a c.count_at-count.ensures c.if-count-eq0.false c.child.ensures)) c.if-first-eq-CYCLE.false c.if-count-eq1.false c.child-2.ensures)) c.if-second-eq-CYCLE.false c.if-count-eq2.false c.child-3.ensures))
+walk-returns t c = λ l n m a. three-gives _ _ a c.count_at-count.ensures c.if-count-eq0.false c.child.ensures (c.walk.ensures l n m (asks0 _ _ a c.count_at-count.ensures c.if-count-eq0.false c.child.ensures)) c.in_ok-first.was c.if-count-eq1.false c.child-2.ensures (c.walk-2.ensures l n m (asks1 _ _ a c.count_at-count.ensures c.if-count-eq0.false c.child.ensures (c.walk.ensures l n m (asks0 _ _ a c.count_at-count.ensures c.if-count-eq0.false c.child.ensures)) c.in_ok-first.was c.if-count-eq1.false c.child-2.ensures)) c.in_ok-second.was c.if-count-eq2.false c.child-3.ensures (c.walk-3.ensures l n m (asks2 _ _ a c.count_at-count.ensures c.if-count-eq0.false c.child.ensures (c.walk.ensures l n m (asks0 _ _ a c.count_at-count.ensures c.if-count-eq0.false c.child.ensures)) c.in_ok-first.was c.if-count-eq1.false c.child-2.ensures (c.walk-2.ensures l n m (asks1 _ _ a c.count_at-count.ensures c.if-count-eq0.false c.child.ensures (c.walk.ensures l n m (asks0 _ _ a c.count_at-count.ensures c.if-count-eq0.false c.child.ensures)) c.in_ok-first.was c.if-count-eq1.false c.child-2.ensures)) c.in_ok-second.was c.if-count-eq2.false c.child-3.ensures))

@@ -1,25 +1,15 @@
--- `pool::shape::first_lost_root` meets its contract: no root below e is lost. Assumes nothing.
-use native.Mathlib.Omega.{arith}
-use mathlib.Core.Path.{sym, ◌∙◌, ap}
-use lib.Dec.{leb}
-use borrow.Author.Tests.{le-leb, lt-leb}
-use Rattle.pool.proofs.Firsts.{passed_none, passed-more, passed-found, passed-all}
+-- `pool::shape::first_lost_root` meets its contract. Assumes nothing.
+use mathlib.Core.Path.{◌≡◌}
+use mathlib.Core.Bool.{true, false}
+use borrow.Author.Rules.{rules}
+use borrow.Author.Tests.{tests}
+use Rattle.std.proofs.lemmas.Iterator.{first_from_Range}
+use Rattle.pool.proofs.Firsts.{first_by}
+use Rattle.pool.specs.Shapes.{lost_root_in}
 use Rattle.pool.proofs.shape.first_lost_root.Goals as goal
 
-pub loop-e-init : goal.loop-e-init
-loop-e-init c = passed_none _ _
-
-pub root-requires : goal.root-requires
-root-requires c = omega arith
-
-pub returns-then-n-root : goal.returns-then-n-root
-returns-then-n-root c = passed-found c.loop-e.invariant c.loop-e-test.true (ap (leb _) (sym c.root.ensures) ∙ le-leb _ _ c.if-n-root.true)
-
-pub loop-e-smaller : goal.loop-e-smaller
-loop-e-smaller c = omega arith
-
-pub loop-e-preserved : goal.loop-e-preserved
-loop-e-preserved c = passed-more c.loop-e.invariant c.loop-e-test.true (ap (leb _) (sym c.root.ensures) ∙ lt-leb _ _ c.if-n-root.false)
-
 pub returns : goal.returns
-returns c = passed-all c.loop-e.invariant c.loop-e-test.false
+returns c =
+    first_by (lost_root_in c.args.expressions.now c.args.n) _ _
+    (first_from_Range _ _ _ _ (λ i. lost_root_in c.args.expressions.now c.args.n i ≡ true) (λ i. lost_root_in c.args.expressions.now c.args.n i ≡ false) c.find.ensures.ran
+    (λ x q k. search (rules, tests)) (λ x q k. search (rules, tests)))

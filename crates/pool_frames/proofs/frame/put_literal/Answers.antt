@@ -1,8 +1,6 @@
 -- `pool_frames::frame::put_literal` meets its contract.
 -- Assumes nothing.
-use mathlib.Core.Path.{◌∙◌, ap}
-use lib.ListN.{length, length-set}
-use Rattle.kinds.specs.Write.{write-length}
+use lib.ListN.{length-set}
 use native.Mathlib.Omega.{arith}
 use lib.ListN.{length-set}
 use Rattle.pool_frames.proofs.Parts.{literal-room, put-with, put-without}
@@ -13,9 +11,6 @@ bounds-out-at c = omega (arith, c.requires, literal-room c.args.x _ c.carries_li
 
 pub put_u64-requires : goal.put_u64-requires
 put_u64-requires c = simp length-set (omega (arith, c.requires, literal-room c.args.x _ c.carries_literal.ensures c.if-carries_literal.true))
-
-pub shape_of-out-then-carries_literal : goal.shape_of-out-then-carries_literal
-shape_of-out-then-carries_literal c = ap length c.put_u64.ensures ∙ write-length _ _ _ ∙ simp length-set
 
 pub returns-then-carries_literal : goal.returns-then-carries_literal
 returns-then-carries_literal c = put-with _ _ c.args.x _ c.carries_literal.ensures c.if-carries_literal.true c.put_u64.ensures

@@ -1,16 +1,14 @@
 -- `requests::run::run_text` meets its contract: each need is one law of specs/Reads.antt.
 -- Assumes nothing.
-use Rattle.requests.specs.Reads.{of-text, whole-asked, malformed-run, limit-run, ran-run}
+use Rattle.std.proofs.lemmas.Result.{err_from_is_err_and}
+use Rattle.requests.specs.Reads.{of-text, whole-asked, refused-run, ran-run}
 use Rattle.requests.proofs.run.run_text.Goals as goal
 
 pub whole_run-requires : goal.whole_run-requires
-whole_run-requires c = whole-asked (of-text c.fill_text.ensures) c.in-Read.is
+whole_run-requires c = whole-asked (of-text c.fill_text.ensures) c.in_ok-c.was
 
-pub returns-in-Malformed : goal.returns-in-Malformed
-returns-in-Malformed c = malformed-run (of-text c.fill_text.ensures) c.in-Malformed.is _
+pub returns : goal.returns
+returns c = ran-run (of-text c.fill_text.ensures) c.in_ok-c.was _ _ _ c.whole_run.ensures
 
-pub returns-in-Full : goal.returns-in-Full
-returns-in-Full c = limit-run (of-text c.fill_text.ensures) c.in-Full.is _
-
-pub returns-in-Read : goal.returns-in-Read
-returns-in-Read c = ran-run (of-text c.fill_text.ensures) c.in-Read.is _ _ _ c.whole_run.ensures
+pub returns-in_err-c : goal.returns-in_err-c
+returns-in_err-c c = let p = err_from_is_err_and c.from_residual.result c.from_residual.ensures.1 in rw (p.1, p.2) (refused-run (of-text c.fill_text.ensures) c.in_err-c.was _)

@@ -1,17 +1,7 @@
 -- `sections::groups::next_position` meets its contract.
 -- Assumes nothing.
-use native.Mathlib.Omega.{arith}
-use Rattle.sections.proofs.Laws.Tables.{small_at, next-first, next-second, next-third, next-none}
+use Rattle.sections.proofs.Laws.Tables.{next-first, next-second, next-third, next-none}
 use Rattle.sections.proofs.groups.next_position.Goals as goal
-
-pub overflow_add-result : goal.overflow_add-result
-overflow_add-result c = omega (arith, small_at c.args.all.now c.args.section 1 _ c.requires.1 c.requires.0 (omega arith) c.group-in-2.ensures, small_at c.args.gone.now c.args.section 2 _ c.requires.2 c.requires.0 (omega arith) c.group-in-2-2.ensures)
-
-pub overflow_add-result-in-3 : goal.overflow_add-result-in-3
-overflow_add-result-in-3 c = omega (arith, small_at c.args.all.now c.args.section 1 _ c.requires.1 c.requires.0 (omega arith) c.group-in-3.ensures, small_at c.args.all.now c.args.section 2 _ c.requires.1 c.requires.0 (omega arith) c.group-in-3-2.ensures)
-
-pub overflow_add-result-in-3-2 : goal.overflow_add-result-in-3-2
-overflow_add-result-in-3-2 c = omega (arith, small_at c.args.all.now c.args.section 1 _ c.requires.1 c.requires.0 (omega arith) c.group-in-3.ensures, small_at c.args.all.now c.args.section 2 _ c.requires.1 c.requires.0 (omega arith) c.group-in-3-2.ensures, small_at c.args.gone.now c.args.section 3 _ c.requires.2 c.requires.0 (omega arith) c.group-in-3-3.ensures)
 
 pub returns-in-1 : goal.returns-in-1
 returns-in-1 c = next-first c.args.all.now c.args.gone.now c.args.section c.args.dim c.args.old c.in-1.is _ c.group.ensures

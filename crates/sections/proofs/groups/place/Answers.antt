@@ -8,38 +8,11 @@ use Rattle.sections.proofs.groups.place.Goals as goal
 pub loop-i-init : goal.loop-i-init
 loop-i-init c = (omega arith, tally-begin _ _ _ refl, place-begin _ _ _)
 
-pub offset_bounds-sections-i : goal.offset_bounds-sections-i
-offset_bounds-sections-i c = omega (arith, c.requires.0.few, c.well_formed)
-
-pub bounds-sections-i : goal.bounds-sections-i
-bounds-sections-i c = omega (arith, c.requires.0.paired)
-
-pub offset_bounds-dims-i : goal.offset_bounds-dims-i
-offset_bounds-dims-i c = omega (arith, c.requires.0.few, c.well_formed)
-
-pub bounds-dims-i : goal.bounds-dims-i
-bounds-dims-i c = omega arith
-
-pub offset_bounds-positions-i : goal.offset_bounds-positions-i
-offset_bounds-positions-i c = omega (arith, c.requires.0.few, c.well_formed)
-
-pub bounds-positions-i : goal.bounds-positions-i
-bounds-positions-i c = omega (arith, c.loop-i.invariant.2.long, c.requires.1)
-
 pub next_position-requires : goal.next_position-requires
 next_position-requires c = (c.requires.0.known c.loop-i.i (omega (arith, c.requires.0.paired)), all_small _ _ _ c.requires.0 c.requires.2, tallied-small _ _ _ _ c.loop-i.invariant.1 (omega (arith, c.requires.0.few)))
 
-pub offset_bounds-positions-i-in-loop-i : goal.offset_bounds-positions-i-in-loop-i
-offset_bounds-positions-i-in-loop-i c = omega (arith, c.requires.0.few, c.well_formed)
-
-pub bounds-positions-i-in-loop-i : goal.bounds-positions-i-in-loop-i
-bounds-positions-i-in-loop-i c = omega (arith, c.loop-i.invariant.2.long, c.requires.1)
-
 pub add_record-requires : goal.add_record-requires
 add_record-requires c = (c.requires.0.known c.loop-i.i (omega (arith, c.requires.0.paired)), tallied-small _ _ _ _ c.loop-i.invariant.1 (omega (arith, c.requires.0.few)))
-
-pub loop-i-smaller : goal.loop-i-smaller
-loop-i-smaller c = omega (arith, c.loop-i-test.true)
 
 pub loop-i-preserved : goal.loop-i-preserved
 loop-i-preserved c = (omega (arith, c.loop-i-test.true), tally-next _ _ _ _ _ c.loop-i.invariant.1 c.add_record.ensures (c.requires.0.known c.loop-i.i (omega (arith, c.requires.0.paired, c.loop-i-test.true))), place-next _ _ _ _ _ _ c.loop-i.invariant.2 (c.next_position.ensures ∙ position_is _ _ _ _ _ c.requires.2 c.loop-i.invariant.1 c.loop-i-test.true (c.requires.0.known c.loop-i.i (omega (arith, c.requires.0.paired, c.loop-i-test.true))) _) (omega (arith, c.loop-i.invariant.2.long, c.requires.1, c.loop-i-test.true)))

@@ -10,26 +10,11 @@ use Rattle.sections.proofs.groups.put_widths.Goals as goal
 pub loop-s-init : goal.loop-s-init
 loop-s-init c = (omega arith, sym (write-none _ _), refl)
 
-pub overflow_cast-s : goal.overflow_cast-s
-overflow_cast-s c = omega arith
-
-pub width-requires : goal.width-requires
-width-requires c = (omega arith, c.requires.0)
-
-pub overflow_add-widths : goal.overflow_add-widths
-overflow_add-widths c = omega (arith, c.requires.1, c.well_formed)
-
-pub offset_bounds-widths-at : goal.offset_bounds-widths-at
-offset_bounds-widths-at c = omega (arith, c.requires.1, c.well_formed)
-
-pub bounds-widths-at : goal.bounds-widths-at
-bounds-widths-at c = omega (arith, c.requires.1, c.loop-s.invariant.2)
-
-pub loop-s-smaller : goal.loop-s-smaller
-loop-s-smaller c = omega arith
+pub of-requires : goal.of-requires
+of-requires c = (omega arith, c.requires.0)
 
 pub loop-s-preserved : goal.loop-s-preserved
-loop-s-preserved c = (omega arith, widths-next _ _ _ _ _ _ c.loop-s.invariant.1 c.width.ensures, simp length-set c.loop-s.invariant.2)
+loop-s-preserved c = (omega arith, widths-next _ _ _ _ _ _ c.loop-s.invariant.1 c.of.ensures, simp length-set c.loop-s.invariant.2)
 
 pub shape_of-widths : goal.shape_of-widths
 shape_of-widths c = c.loop-s.invariant.2

@@ -7,23 +7,8 @@ use Rattle.sections.proofs.groups.tally.Goals as goal
 pub loop-i-init : goal.loop-i-init
 loop-i-init c = (omega arith, tally-begin _ _ _ c.requires.1)
 
-pub offset_bounds-sections-i : goal.offset_bounds-sections-i
-offset_bounds-sections-i c = omega (arith, c.requires.0.few, c.well_formed)
-
-pub bounds-sections-i : goal.bounds-sections-i
-bounds-sections-i c = omega (arith, c.requires.0.paired)
-
-pub offset_bounds-dims-i : goal.offset_bounds-dims-i
-offset_bounds-dims-i c = omega (arith, c.requires.0.few, c.well_formed)
-
-pub bounds-dims-i : goal.bounds-dims-i
-bounds-dims-i c = omega arith
-
 pub add_record-requires : goal.add_record-requires
 add_record-requires c = (c.requires.0.known c.loop-i.i (omega (arith, c.requires.0.paired)), tallied-small _ _ _ _ c.loop-i.invariant.1 (omega (arith, c.requires.0.few)))
-
-pub loop-i-smaller : goal.loop-i-smaller
-loop-i-smaller c = omega arith
 
 pub loop-i-preserved : goal.loop-i-preserved
 loop-i-preserved c = (omega arith, tally-next _ _ _ _ _ c.loop-i.invariant.1 c.add_record.ensures (c.requires.0.known c.loop-i.i (omega (arith, c.requires.0.paired))))

@@ -1,29 +1,12 @@
--- `sections::map_section::known_sections` meets its contract: the sections before k are known.
+-- `sections::map_section::known_sections` meets its contract.
 -- Assumes nothing.
-use native.Mathlib.Omega.{arith}
-use Rattle.sections.proofs.Laws.Maps.{known-begin, known_next, known-stop, known-end}
+use Rattle.std.proofs.Common.{rules, ◌∙◌, ltb}
+use borrow.Author.Tests.{tests}
+use Rattle.std.proofs.lemmas.Iterator.{YieldsList-from_slice}
+use Rattle.std.proofs.lemmas.Iterator.Search.{all_from_yields_List}
+use Rattle.sections.specs.Sections.{section_count}
+use Rattle.sections.proofs.Laws.Maps.{known-is-all}
 use Rattle.sections.proofs.map_section.known_sections.Goals as goal
 
-pub loop-k-init : goal.loop-k-init
-loop-k-init c = (omega arith, known-begin c.args.sections.now)
-
-pub offset_bounds-sections-k : goal.offset_bounds-sections-k
-offset_bounds-sections-k c = omega (arith, c.requires, c.well_formed)
-
-pub bounds-sections-k : goal.bounds-sections-k
-bounds-sections-k c = omega (arith, c.requires)
-
-pub overflow_cast-sections : goal.overflow_cast-sections
-overflow_cast-sections c = omega (arith, c.type_inv.sections c.loop-k.k)
-
-pub returns-then-sections-k-ge-COUNT : goal.returns-then-sections-k-ge-COUNT
-returns-then-sections-k-ge-COUNT c = known-stop c.args.sections.now c.loop-k.k _ c.loop-k-test.true c.requires c.if-sections-k-ge-COUNT.true
-
-pub loop-k-smaller : goal.loop-k-smaller
-loop-k-smaller c = omega arith
-
-pub loop-k-preserved : goal.loop-k-preserved
-loop-k-preserved c = (omega arith, known_next c.args.sections.now c.loop-k.k (omega (arith, c.requires, c.loop-k-test.true)) c.loop-k.invariant.1 c.if-sections-k-ge-COUNT.false)
-
 pub returns : goal.returns
-returns c = known-end c.args.sections.now _ _ c.loop-k.invariant.1 c.loop-k.invariant.0 c.loop-k-test.false
+returns c = all_from_yields_List (λ s. ltb s section_count) _ _ _ c.all.ensures.ran (YieldsList-from_slice c.args.sections.now cc) (λ x b q k. search (rules, tests)) ∙ known-is-all c.args.sections.now

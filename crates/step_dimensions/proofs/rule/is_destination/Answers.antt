@@ -10,13 +10,13 @@ pub returns-in-16 : goal.returns-in-16
 unfolding is_destination within
 returns-in-16 c = true-over is_destination 0x10 0x10 tt c.args.kind (omega arith)
 
-pub returns-in-18-to-19 : goal.returns-in-18-to-19
+pub returns-in-16-2 : goal.returns-in-16-2
 unfolding is_destination within
-returns-in-18-to-19 c = true-over is_destination 0x12 0x13 tt c.args.kind (omega arith)
+returns-in-16-2 c = true-over is_destination 0x12 0x13 tt c.args.kind (omega arith)
 
-pub returns-in-32-to-34 : goal.returns-in-32-to-34
+pub returns-in-16-3 : goal.returns-in-16-3
 unfolding is_destination within
-returns-in-32-to-34 c = true-over is_destination 0x20 0x22 tt c.args.kind (omega arith)
+returns-in-16-3 c = true-over is_destination 0x20 0x22 tt c.args.kind (omega arith)
 
 pub returns-in_default : goal.returns-in_default
 returns-in_default c = not_low c.args.kind (omega arith) (omega arith)

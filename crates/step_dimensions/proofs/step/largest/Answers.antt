@@ -4,11 +4,11 @@ use mathlib.Core.Path.{◌∙◌}
 use Rattle.step_dimensions.specs.Laws.Steps.{largest-one, largest-two, largest-three}
 use Rattle.step_dimensions.proofs.step.largest.Goals as goal
 
-pub returns-then-needed-eq1 : goal.returns-then-needed-eq1
-returns-then-needed-eq1 c = largest-one _ _ _ _ c.if-needed-eq1.true
+pub returns-in-1 : goal.returns-in-1
+returns-in-1 c = largest-one _ _ _ _ c.in-1.is
 
-pub returns-then-needed-eq2 : goal.returns-then-needed-eq2
-returns-then-needed-eq2 c = c.larger.ensures ∙ largest-two _ _ _ _ c.if-needed-eq2.true
+pub returns-in-2 : goal.returns-in-2
+returns-in-2 c = c.max.ensures ∙ largest-two _ _ _ _ c.in-2.is
 
-pub returns : goal.returns
-returns c = c.larger-3.ensures ∙ largest-three _ _ _ _ c.if-needed-eq1.false c.if-needed-eq2.false _ c.larger-2.ensures
+pub returns-in_default : goal.returns-in_default
+returns-in_default c = c.max-in_default-2.ensures ∙ largest-three _ _ _ _ c.in_default.in_default-own.rest.0.1 c.in_default.in_default-own.rest.1 _ c.max-in_default.ensures

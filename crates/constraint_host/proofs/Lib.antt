@@ -1,2 +1,0 @@
--- The lemmas of the proofs.
-pub mod Numbers
