@@ -13,7 +13,7 @@ use frames::tables::expression_at;
 use starkinfo_codegen::order::JOB_LIMIT;
 use starkinfo_codegen::out::ROWS;
 
-// Every block; without the plain blocks that are skipped; without any that is.
+// Every block; without the plain blocks that are skipped; without any that is. An enum and no closure: there are these three lists and no others, and each has its own definition.
 #[derive(Clone, Copy)]
 pub enum Which {
     First,

@@ -55,6 +55,7 @@ fn read_full(input: &mut impl Read, buffer: &mut [u8]) -> usize
     ensures { result ≤ length buffer.new }
 {
     let mut done: usize = 0;
+    // No `for`: each read says how many bytes it put there.
     while done < buffer.len() {
         match input.read(&mut buffer[done..]) {
             Ok(0) => break,

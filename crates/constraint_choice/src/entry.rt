@@ -39,7 +39,7 @@ fn decide_read(
 }
 
 // Frames, each behind its length; requests among them are read and not served. Where a set is chosen it stands in `set`, and the pool with the constraint in the other tables.
-// The tables are lent one by one, as each crate below takes them: a struct here would be taken apart at once.
+// The tables are lent one by one, as each crate below takes them: a struct here would be taken apart at once, and so would one of a context and the bytes of its list.
 pub fn decide(
     s: &[u8],
     identities: &[u64],

@@ -65,6 +65,7 @@ impl Cells {
     {
         let id = id_of(key);
         let mut at = self.heads[id] as usize;
+        // No `for`: each cell says which one is next.
         while 0 < at {
             let cell = at - 1;
             if self.keys[cell] == key {

@@ -31,20 +31,14 @@ pub struct Node {
     pub magnitude: u64,
 }
 
-fn wide(x: u16) -> u64
-    ensures { result ≡ x }
-{
-    x as u64
-}
-
 fn u64_at(f: &[u8], at: usize) -> u64
     requires { at + 8 ≤ length f.now }
     ensures { result ≡ u64_at f.now at }
 {
-    let a = wide(u16_at(f, at));
-    let b = wide(u16_at(f, at + 2));
-    let c = wide(u16_at(f, at + 4));
-    let d = wide(u16_at(f, at + 6));
+    let a = u64::from(u16_at(f, at));
+    let b = u64::from(u16_at(f, at + 2));
+    let c = u64::from(u16_at(f, at + 4));
+    let d = u64::from(u16_at(f, at + 6));
     ((a * 65536 + b) * 65536 + c) * 65536 + d
 }
 

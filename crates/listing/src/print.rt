@@ -73,6 +73,7 @@ pub fn print_blocks(
 {
     let mut at = used;
     let mut from: usize = 0;
+    // No `for`: each block says where the next one begins.
     while from < steps {
         let last = block_end(list, from, steps);
         let end = last + 1;

@@ -7,6 +7,7 @@ use mathlib.Core.List.{List, [], ◌∷◌, ◌++◌, append-nil, append_assoc}
 use native.Mathlib.Omega.{arith}
 use lib.ListN.{length, get_or, set, length-append}
 use lib.Dec.{eqb}
+use mir.Val.{bool_byte}
 use borrow.Author.Tests.{le-ltb, lt-ltb, le-leb, lt-leb, eq-eqb, ne_eqb}
 use Rattle.kinds.specs.KindBytes as kind
 use Rattle.kinds.specs.Kinds.{carries_literal}
@@ -18,13 +19,18 @@ use Rattle.frames.specs.Order.{node_limit}
 use Rattle.frames.specs.Tables.{kind_in, sign_in}
 use Rattle.frames.specs.Hexed.{hex_digit, hex_line, line-length}
 use Rattle.frames.specs.Text.{line_feed}
-use Rattle.output.specs.Output.{lit_out, line}
+use Rattle.output.specs.Output.{sign_byte, lit_out, line}
 use Rattle.output.specs.Records.{brought_by, literal_in, cell_bytes, source_bytes, sources_bytes, record_bytes, record_line, Puts, PutsLine}
 use Rattle.output.specs.Laws.{hex-append, line-size, cell-size, literal-size, source-size, sources-size}
 
 pub put_two : (l : List ℕ) (at b v w : ℕ) → v ≡ hex_digit (b / 16) → w ≡ hex_digit (b % 16) → set (set l at v) (at + 1) w ≡ write l at (hex_line (b ∷ []))
 unfolding hex_line
 put_two l at b v w e f = write_two l at v w ∙ rw (e, f)
+
+-- a sign as a byte
+pub sign-is : (negative : Bool) → bool_byte negative ≡ sign_byte negative
+sign-is true = refl
+sign-is false = refl
 
 pub put_next :
     {l₁ l₂ : List ℕ} (l : List ℕ) (at : ℕ) (xs ys : List ℕ) (j : ℕ) → l₁ ≡ write l at (hex_line xs) → l₂ ≡ write l₁ j (hex_line ys)

@@ -3,7 +3,7 @@ ghost use Rattle.std.specs.Prelude.{◌≡◌, [], ◌∷◌, ◌+◌, ◌*◌, 
 ghost use Rattle.kinds.specs.Write.{write};
 ghost use Rattle.kinds.specs.BigEndian.{u16_bytes};
 ghost use Rattle.frames.specs.Hexed.{hex_digit, hex_line};
-ghost use Rattle.output.specs.Output.{u32_bytes, u64_bytes, sign_byte, lit_out, counter_line, refusal_line};
+ghost use Rattle.output.specs.Output.{u32_bytes, u64_bytes, lit_out, counter_line, refusal_line};
 ghost use Rattle.output.specs.Records.{line_size, lit_of, literal_in, cell_bytes, source_bytes, sources_bytes, record_line, Puts, PutsLine};
 
 use frames::count::NODE_LIMIT;
@@ -83,18 +83,12 @@ fn put_cell(out: &mut [u8; LINE_SIZE], at: usize, r: Reference)
     put_byte(out, at + PRIME, r.prime);
 }
 
-// 01 is minus.
-fn sign_byte(negative: bool) -> u8
-    ensures { result ≡ sign_byte negative }
-{
-    if negative { 1 } else { 0 }
-}
-
 fn put_literal(out: &mut [u8; LINE_SIZE], at: usize, l: Literal)
     requires { at + 18 ≤ line_size }
     ensures { out.new ≡ write out.old at (hex_line (lit_out (lit_of l))) }
 {
-    put_byte(out, at, sign_byte(l.negative));
+    // 01 is minus.
+    put_byte(out, at, u8::from(l.negative));
     put_u64(out, at + BYTE, l.magnitude);
 }
 

@@ -22,9 +22,7 @@ fn place_columns(
     requires { PlacesAsked columns.now count exp2pol.old }
     ensures { PlacesGiven columns.now temporaries.now count exp2pol.old exp2pol.new }
 {
-    let mut k = count;
-    while 0 < k {
-        k -= 1;
+    for k in (0..count).rev() {
         let e = columns[k] as usize;
         exp2pol[e] = temporaries[k];
     }

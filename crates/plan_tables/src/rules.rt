@@ -29,9 +29,7 @@ fn fill_columns(
     ensures { ColumnRulesGiven nodes.now expressions.now (entries_in table.now) cmdims.now columns.now count rules.old rules.new }
 {
     let mut known = [UNKNOWN; EXPRESSION_LIMIT];
-    let mut k = count;
-    while 0 < k {
-        k -= 1;
+    for k in (0..count).rev() {
         let e = columns[k] as usize;
         let d = get_exp_dim(nodes, expressions, table, cmdims, &mut known, e);
         rules[e] = pack(Kind::TMP_EXP, k, d);

@@ -12,12 +12,10 @@ fn ascends(plan: &[u8]) -> bool
 {
     let n = im_count(plan);
     let at = im_at(plan);
-    let mut i: usize = 0;
-    while i + 1 < n {
+    for i in 0..n.saturating_sub(1) {
         if number_at(plan, at + PAIR_SIZE * (i + 1)) <= number_at(plan, at + PAIR_SIZE * i) {
             return false;
         }
-        i += 1;
     }
     true
 }

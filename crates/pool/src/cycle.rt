@@ -114,6 +114,7 @@ fn least_back(
     let mut marks = [0u8; EXPRESSION_LIMIT];
     let mut found = least;
     marks[target] = REACHED;
+    // No `for`: what is followed marks more to follow.
     loop {
         let Some(e) = first_reached(&marks, m) else {
             return found;

@@ -17,15 +17,13 @@ pub fn block_end(list: &[u8], from: usize, steps: usize) -> usize
     requires { EndAsked (length list.now) from steps }
     ensures { EndGiven list.now from steps result }
 {
-    let mut k = from;
-    while k + 1 < steps {
+    for k in from..steps - 1 {
         let dest = nth_step(list, k).dest;
         if dest.kind == Kind::EXP {
             return k;
         }
-        k += 1;
     }
-    k
+    steps - 1
 }
 
 // An expression as the circuit wrote it; of one that is not there, nothing.

@@ -41,16 +41,10 @@ fn number(form: u8, input: &[u8], n: usize) -> u64
     ensures { NumberedAs form (take n input.now) result }
 {
     if form == TEXT {
-        wide(pool::number::number_of_text(&input[..n]))
+        u64::from(pool::number::number_of_text(&input[..n]))
     } else {
-        wide(pool::number::number_of(&input[..n]))
+        u64::from(pool::number::number_of(&input[..n]))
     }
-}
-
-fn wide(x: u8) -> u64
-    ensures { result ≡ x }
-{
-    x as u64
 }
 
 // The form, the length of the name, that of the pool, the name, the pool.
@@ -65,7 +59,7 @@ fn entry(
         return false;
     }
     let form = head[0];
-    let n = wide(head[1]) as usize;
+    let n = usize::from(head[1]);
     let m = u16_of(head[2], head[3]) as usize;
     if !filled(from, name, n) {
         return false;

@@ -1,6 +1,6 @@
 -- A block: the steps of its root's tree, with the last one's destination changed, or a copy.
 -- Assumes nothing.
-use Prim.Native.Nat.{ℕ, ◌+◌, ◌*◌, ◌-◌, ◌<◌, ◌≤◌}
+use Prim.Native.Nat.{ℕ, zero, suc, ◌+◌, ◌*◌, ◌-◌, ◌<◌, ◌≤◌}
 use mathlib.Core.Path.{◌≡◌, refl, sym, ◌∙◌, ap, subst}
 use mathlib.Core.Bool.{Bool}
 use mathlib.Core.List.{List, [], ◌∷◌, ◌++◌, append_assoc}
@@ -109,11 +109,18 @@ module _ (w : List ℕ) (b : Rest) (f : Bool) (i : ℕ) (pool : Pooled w b) (the
           few = l;
         }
 
-    pub size-one : n ≡ 0 → Sizes w b f i 1
+    size-one : n ≡ 0 → Sizes w b f i 1
     size-one z = sized 1 (omega arith) (λ row t d. sym (block-leaf row t (tree_of w b f i) d (sym counted ∙ z)))
 
-    pub size-more : (n ≡ 0 → ⊥) → Sizes w b f i n
+    size-more : (n ≡ 0 → ⊥) → Sizes w b f i n
     size-more z = sized n (omega (arith, taken-few, e)) (λ row t d. counted ∙ sym (block-count row t (tree_of w b f i) d (λ q. z (counted ∙ q))))
+
+    pub size-of : {m : ℕ} → (n ≡ 0 → m ≡ 1) → ((n ≡ 0 → ⊥) → m ≡ n) → Sizes w b f i m
+    size-of {m} one more = go n refl
+      where
+        go : (k : ℕ) → n ≡ k → Sizes w b f i m
+        go zero z = subst (Sizes w b f i) (sym (one z)) (size-one z)
+        go (suc k) z = let x : n ≡ 0 → ⊥ = λ q. omega (arith, q, z) in subst (Sizes w b f i) (sym (more x)) (size-more x)
 
 -- ── writing ──────────────────────────────────────────────────────────────────
 module _ (w : List ℕ) (b : Rest) (f : Bool) (row t i e : ℕ) {at room : ℕ} (a : BlockAsks w b f row t i e at room) where

@@ -2,7 +2,7 @@
 -- Assumes nothing.
 use Prim.Native.Nat.{ℕ, zero, suc, ◌+◌, ◌*◌, ◌-◌, ◌<◌, ◌≤◌}
 use mathlib.Core.Path.{◌≡◌, refl, sym, ◌∙◌, ap, ap₂, subst}
-use mathlib.Core.Bool.{Bool, true, false, ◌||◌, cond}
+use mathlib.Core.Bool.{Bool, true, false, cond}
 use mathlib.Core.Option.{Option, some}
 use mathlib.Core.List.{List, [], ◌∷◌, ◌++◌, append_assoc, append-nil}
 use mathlib.Core.Logic.{inl, inr}
@@ -11,12 +11,14 @@ use native.Mathlib.Nat.{add-zero}
 use lib.ListN.{length, get_or, set, length-set, length-append}
 use lib.Seq.{get_or-set_other}
 use lib.Dec.{eqb}
+use mir.Val.{bool_byte}
+use Rattle.std.specs.Prelude as std
 use borrow.Author.Tests.{ne_eqb, lt-ltb, le-ltb}
 use Rattle.meaning.specs.Refusals.{Refusal, Answer, done, refused, ◌then◌}
 use Rattle.meaning.specs.Trees.{Leaf, Forest, Falls, Acyclic, nth, Placed, ◌at◌, leaves, Each}
 use Rattle.meaning.specs.Trees as meaning
 use Rattle.meaning.specs.Order.{Marks, marking, Job, Asked, nothing, asked, primed, own, ask_leaf, ask_leaves, ask_below}
-use Rattle.meaning.proofs.Laws.Tests.{true-false, each_left, each_right, each-join}
+use Rattle.meaning.proofs.Laws.Tests.{each_left, each_right, each-join}
 use Rattle.meaning.proofs.Laws.Fuse.{asked-leaves}
 use Rattle.meaning.proofs.Laws.Jobs.{InRows}
 use Rattle.kinds.specs.KindBytes as kind
@@ -32,19 +34,16 @@ use Rattle.starkinfo_codegen.specs.Words.{node_of_words}
 use Rattle.starkinfo_codegen.specs.Emitting.{Rest, tables_of, pool_of, Pooled, tree_of}
 use Rattle.starkinfo_codegen.specs.JobWords.{words_append, words-length}
 use Rattle.starkinfo_codegen.specs.Marked.{zeros-set, marked, not-marked, marks-set}
-use Rattle.starkinfo_codegen.specs.Ordering.{leaves_of, verdict, OutAsks, cell_of, marks_of, job_at, job_words, State, Stopped, Made, Gives, CodeAsks, DepsAsks, coded, needed}
+use Rattle.starkinfo_codegen.specs.Ordering.{leaves_of, blames, OutAsks, cell_of, marks_of, job_at, job_words, State, Stopped, Made, Gives, CodeAsks, DepsAsks, coded, needed}
 use Rattle.starkinfo_codegen.proofs.Calls.{rank, rank_falls}
-use Rattle.starkinfo_codegen.proofs.Outs.{node-leaves, past-leaves, some_out, past-out}
+use Rattle.starkinfo_codegen.proofs.Outs.{node-leaves, past-leaves}
 use Rattle.starkinfo_codegen.proofs.Kids.{One, Two, Three, lone, one, only_one, two, only_two, three, in_rows_lem, own-done}
 
 -- ── words ────────────────────────────────────────────────────────────────────
-pub job-fused : (c : ℕ) (f : Bool) → f ≡ true → c * 2 + 1 ≡ job_at c f
+pub job-word : (c : ℕ) (f : Bool) → c * 2 + bool_byte f ≡ job_at c f
 unfolding job_at
-job-fused c f h = rw h
-
-pub job-plain : (c : ℕ) (f : Bool) → f ≡ false → c * 2 ≡ job_at c f
-unfolding job_at
-job-plain c f h = rw h (sym (add-zero (c * 2)))
+job-word c true = refl
+job-word c false = refl
 
 write-one : (l : List ℕ) (i v : ℕ) → set l i v ≡ write l i (v ∷ [])
 unfolding write
@@ -111,10 +110,6 @@ module _ (ask : Asks) (r : ℕ) where
               let e : joined c d ≡ a = cc in
               subst (λ (a : Asked). (all (xs ++ ys) c.marks then λ b. done (joined c b)) ≡ (all ys a.marks then λ b. done (joined a b))) e
               (rw (ih c d p) (last d (all ys d.marks)))
-
-pub neither : (a b : Bool) → (a || b) ≡ false → (a ≡ false) × (b ≡ false)
-neither true b h = absurd (true-false refl h)
-neither false b h = (refl, h)
 
 pub rank-some : (i : ℕ) → i < 4096 → 1 ≤ rank i
 rank-some i h = rw (lt-ltb i 4096 h) (omega arith)
@@ -505,11 +500,19 @@ module _ (w x : List ℕ) (b : Rest) (A : Acyclic (forest (pool_of w b))) where
           m : Made A.rank (A.rank e) (needed w x b A (levels - 1) (L q) row (marks_of s)) s s1 j j1 n r1
           m = made-not A.rank (A.rank e) g l1
 
-          module _ (v : ℕ) (k : own 2 (leaves_of w b fused q) row ≡ verdict v) where
-            pub out-stop : v < 4096 → Codes s1 j1 (1025 + v)
-            out-stop l = blamed A.rank (suc (A.rank e)) _ v l (is-fresh ∙ rw (m.is, k, some_out v l))
+          abbrev Own : std.Option ℕ → Type 0
+          Own o = blames (own 2 (leaves_of w b fused q) row) o
 
-            module _ (l2 : 4096 ≤ v) where
+          module _ {r : std.Option ℕ} (k : Own r) where
+            pub out-stop : {v : ℕ} → r ≡ std.Some v → Codes s1 j1 (1025 + v)
+            out-stop {v} h =
+                let p : Own (std.Some v) = subst Own h k in
+                blamed A.rank (suc (A.rank e)) _ v p.0 (is-fresh ∙ rw (m.is, p.1))
+
+            module _ (l2 : r ≡ std.None) where
+              quiet : Own std.None
+              quiet = subst Own l2 k
+
               sizes : State s1 j1 r1
               sizes = m.state
 
@@ -535,7 +538,7 @@ module _ (w x : List ℕ) (b : Rest) (A : Acyclic (forest (pool_of w b))) where
               own-made {word} ew = inr (record {
                 jobs = m.jobs ++ (own_job ∷ []);
                 is =
-                    is-fresh ∙ rw (m.is, k, past-out v l2)
+                    is-fresh ∙ rw (m.is, quiet)
                     (ap (λ (z : Marks). done (record { jobs = m.jobs ++ (own_job ∷ []); marks = z })) (marks-set s1 e row a.in_row marks-room));
                 written =
                     write-next j n (job_words m.jobs) (word ∷ []) r1 m.written (write-one j1 r1 word) (omega (arith, words-length m.jobs, m.count))

@@ -1,9 +1,10 @@
 -- The leaves of a node by its operands, and the first of them that reads a row that is not there. Over plain variables.
 -- Assumes nothing.
 use Prim.Native.Nat.{ℕ, ◌+◌, ◌<◌, ◌≤◌}
-use mathlib.Core.Path.{◌≡◌, refl, sym, ◌∙◌, ap}
+use mathlib.Core.Path.{◌≡◌, refl, sym, ◌∙◌, ap, subst}
 use mathlib.Core.Bool.{Bool, true, false, cond}
 use mathlib.Core.Option.{some, none-ne-some, some-injective}
+use Rattle.std.specs.Prelude.{Option, Some, None}
 use mathlib.Core.List.{List, [], ◌∷◌, ◌++◌, append-nil}
 use mathlib.Core.Logic.{◌⊎◌, inl, inr}
 use native.Mathlib.Omega.{arith}
@@ -20,7 +21,7 @@ use Rattle.pool.specs.Laws.Tabled.{node_at}
 use Rattle.starkinfo_codegen.specs.Operations.{literal, operation_at}
 use Rattle.starkinfo_codegen.specs.Plans.{brought, absent, Plan, plan_of}
 use Rattle.starkinfo_codegen.specs.Emitting.{Rest, tables_of, Pooled, tree_of, part_of, There}
-use Rattle.starkinfo_codegen.specs.Ordering.{part_leaves, leaves_of, verdict, OutAsks}
+use Rattle.starkinfo_codegen.specs.Ordering.{part_leaves, leaves_of, blames, OutAsks}
 use Rattle.starkinfo_codegen.specs.declared.operation.Operation.{Operation}
 use Rattle.starkinfo_codegen.proofs.Planned.{Operand, Planned, part-under}
 use Rattle.starkinfo_codegen.proofs.Calls.{leaf-tree, does, under-there}
@@ -59,17 +60,8 @@ module _ (w : List ℕ) (b : Rest) (f : Bool) where
     does-leaves n = node-leaves i few ∙ plan-leaves (tree_of w b f i) (does w b f pooled i few there o eo n).plans
 
 -- ── a leaf ───────────────────────────────────────────────────────────────────
-pub none_out : verdict 4096 ≡ done tt
-unfolding verdict
-none_out = refl
-
-pub some_out : (i : ℕ) → i < 4096 → verdict i ≡ refused Refusal.double_prime (some i)
-unfolding verdict
-some_out i h = rw (lt-ltb i 4096 h)
-
-pub past-out : (i : ℕ) → 4096 ≤ i → verdict i ≡ done tt
-unfolding verdict
-past-out i h = rw (le-ltb i 4096 h)
+abbrev pub blamed_on : ℕ → Answer (Unit {0})
+blamed_on i = refused Refusal.double_prime (some i)
 
 -- what is of either is of the chosen
 either : (Q : Leaf → Type 0) (c : Bool) (k l : Leaf) → Q k → Q l → Q (cond c k l)
@@ -78,9 +70,9 @@ either Q false k l f g = g
 
 module _ (x : Node) (i row : ℕ) where
   -- a leaf of another kind reads no row
-  pub flat_out : (x.kind < kind.cm) ⊎ (kind.q < x.kind) → primed 2 (leaf_of x) i row ≡ verdict 4096
+  pub flat_out : (x.kind < kind.cm) ⊎ (kind.q < x.kind) → primed 2 (leaf_of x) i row ≡ done tt
   flat_out h =
-      rw none_out (rw (
+      rw (
         ne_eqb x.kind kind.cm (λ e. outside h (omega arith) (omega arith)),
         ne_eqb x.kind kind.const (λ e. outside h (omega arith) (omega arith)),
         ne_eqb x.kind kind.exp (λ e. outside h (omega arith) (omega arith)),
@@ -91,7 +83,7 @@ module _ (x : Node) (i row : ℕ) where
       (either Q (eqb x.kind kind.challenge) _ _ refl
       (either Q (eqb x.kind kind.eval) _ _ refl
       (either Q (eqb x.kind kind.x_div_x_sub_xi) _ _ refl
-      (either Q (eqb x.kind kind.x_div_x_sub_w_xi) _ _ refl refl)))))))
+      (either Q (eqb x.kind kind.x_div_x_sub_w_xi) _ _ refl refl))))))
     where
       outside : (x.kind < kind.cm) ⊎ (kind.q < x.kind) → kind.cm ≤ x.kind → x.kind ≤ kind.q → ⊥
       outside (inl l) a b = omega arith
@@ -115,11 +107,11 @@ module _ (x : Node) (i row : ℕ) where
             let h : x.kind ≡ kind.q = omega (arith, a, b, eqb-false x.kind kind.cm p, eqb-false x.kind kind.const q, eqb-false x.kind kind.exp r) in
             rw h
 
-    pub row_in : row + x.next < 2 → primed 2 (leaf_of x) i row ≡ verdict 4096
-    row_in h = ap (λ (c : Bool). cond c (done tt) (refused Refusal.double_prime (some i))) (row_of ∙ lt-ltb (row + x.next) 2 h) ∙ sym none_out
+    pub row_in : row + x.next < 2 → primed 2 (leaf_of x) i row ≡ done tt
+    row_in h = ap (λ (c : Bool). cond c (done tt) (refused Refusal.double_prime (some i))) (row_of ∙ lt-ltb (row + x.next) 2 h)
 
-    pub row_out : i < 4096 → 2 ≤ row + x.next → primed 2 (leaf_of x) i row ≡ verdict i
-    row_out l h = ap (λ (c : Bool). cond c (done tt) (refused Refusal.double_prime (some i))) (row_of ∙ le-ltb (row + x.next) 2 h) ∙ sym (some_out i l)
+    pub row_out : 2 ≤ row + x.next → primed 2 (leaf_of x) i row ≡ blamed_on i
+    row_out h = ap (λ (c : Bool). cond c (done tt) (refused Refusal.double_prime (some i))) (row_of ∙ le-ltb (row + x.next) 2 h)
 
 -- ── leaves one after another ─────────────────────────────────────────────────
 then_same : (x : Answer (Unit {0})) → (x then λ _. done tt) ≡ x
@@ -138,20 +130,25 @@ own-append ((l at n) ∷ xs) ys r = go (primed 2 l n r) (own-append xs ys r)
 own-one : (l : Leaf) (n r : ℕ) → own 2 ((l at n) ∷ []) r ≡ primed 2 l n r
 own-one l n r = then_same (primed 2 l n r)
 
--- a verdict on the first leaves is one on all, where it blames
-verdict-stops : (xs ys : List Placed) (r v : ℕ) → own 2 xs r ≡ verdict v → v < 4096 → own 2 (xs ++ ys) r ≡ verdict v
-verdict-stops xs ys r v h l = own-append xs ys r ∙ rw (h, some_out v l)
+-- the answer for the first leaves is the one for all, where it blames
+blame-stops : (xs ys : List Placed) (r v : ℕ) → own 2 xs r ≡ blamed_on v → own 2 (xs ++ ys) r ≡ blamed_on v
+blame-stops xs ys r v h = own-append xs ys r ∙ rw h
 
-verdict-goes : (xs ys : List Placed) (r v u : ℕ) → own 2 xs r ≡ verdict v → 4096 ≤ v → own 2 ys r ≡ verdict u → own 2 (xs ++ ys) r ≡ verdict u
-verdict-goes xs ys r v u h l k = own-append xs ys r ∙ rw (h, past-out v l) k
+-- and else the one for the others is
+blame-goes : (xs ys : List Placed) (r : ℕ) → own 2 xs r ≡ done tt → own 2 (xs ++ ys) r ≡ own 2 ys r
+blame-goes xs ys r h = own-append xs ys r ∙ rw h
 
 module _ (w : List ℕ) (b : Rest) (f : Bool) (row i : ℕ) (a : OutAsks w b f row i) where
-  pub past-gives : 4096 ≤ i → own 2 (leaves_of w b f i) row ≡ verdict 4096
-  past-gives h = ap (λ l. own 2 l row) (past-leaves w b f i h) ∙ sym none_out
+  abbrev pub Own : ℕ → Option ℕ → Type 0
+  Own c r = blames (own 2 (leaves_of w b f c) row) r
+
+  pub past-gives : 4096 ≤ i → Own i None
+  past-gives h = ap (λ l. own 2 l row) (past-leaves w b f i h)
 
   module _ (few : i < 4096) (o : Operation) (eo : o ≡ operation_at w f i) where
-    pub leaf-gives : o.op ≡ 0 → (v : ℕ) → primed 2 (leaf_of (node_in w b.literals i)) i row ≡ verdict v → own 2 (leaves_of w b f i) row ≡ verdict v
-    leaf-gives z v h = ap (λ l. own 2 l row) (leaf-leaves w b f a.pool i few a.there o eo z) ∙ own-one (leaf_of (node_in w b.literals i)) i row ∙ h
+    pub leaf-gives : o.op ≡ 0 → (v : Option ℕ) → blames (primed 2 (leaf_of (node_in w b.literals i)) i row) v → Own i v
+    leaf-gives z v h =
+        subst (λ x. blames x v) (sym (ap (λ l. own 2 l row) (leaf-leaves w b f a.pool i few a.there o eo z) ∙ own-one (leaf_of (node_in w b.literals i)) i row)) h
 
     module _ (n : o.op ≡ 0 → ⊥) where
       D : Planned w b f i o
@@ -172,15 +169,23 @@ module _ (w : List ℕ) (b : Rest) (f : Bool) (row i : ℕ) (a : OutAsks w b f r
       is : leaves_of w b f i ≡ leaves_of w b f o.a ++ (leaves_of w b f o.b ++ leaves_of w b f o.c)
       is = does-leaves w b f a.pool i few a.there o eo n
 
-      module _ {v : ℕ} (h : own 2 (leaves_of w b f o.a) row ≡ verdict v) where
-        pub first-blamed : v < 4096 → own 2 (leaves_of w b f i) row ≡ verdict v
-        first-blamed l = ap (λ l. own 2 l row) is ∙ verdict-stops (leaves_of w b f o.a) _ row v h l
+      whole : own 2 (leaves_of w b f i) row ≡ own 2 (leaves_of w b f o.a ++ (leaves_of w b f o.b ++ leaves_of w b f o.c)) row
+      whole = ap (λ l. own 2 l row) is
 
-        module _ (l : 4096 ≤ v) {u : ℕ} (k : own 2 (leaves_of w b f o.b) row ≡ verdict u) where
-          pub second-blamed : u < 4096 → own 2 (leaves_of w b f i) row ≡ verdict u
-          second-blamed m = ap (λ l. own 2 l row) is ∙ verdict-goes (leaves_of w b f o.a) _ row v u h l (verdict-stops (leaves_of w b f o.b) _ row u k m)
+      pub first-blamed : {r : Option ℕ} {v : ℕ} → Own o.a r → r ≡ Some v → Own i (Some v)
+      first-blamed {r} {v} h e =
+          let p : Own o.a (Some v) = subst (Own o.a) e h in
+          (p.0, whole ∙ blame-stops (leaves_of w b f o.a) _ row v p.1)
 
-          pub third-blamed : 4096 ≤ u → (t : ℕ) → own 2 (leaves_of w b f o.c) row ≡ verdict t → own 2 (leaves_of w b f i) row ≡ verdict t
-          third-blamed m t q =
-              ap (λ l. own 2 l row) is
-              ∙ verdict-goes (leaves_of w b f o.a) _ row v t h l (verdict-goes (leaves_of w b f o.b) (leaves_of w b f o.c) row u t k m q)
+      module _ {r : Option ℕ} (h : Own o.a r) (e : r ≡ None) where
+        after-first : own 2 (leaves_of w b f i) row ≡ own 2 (leaves_of w b f o.b ++ leaves_of w b f o.c) row
+        after-first = whole ∙ blame-goes (leaves_of w b f o.a) _ row (subst (Own o.a) e h)
+
+        pub second-blamed : {u : Option ℕ} {v : ℕ} → Own o.b u → u ≡ Some v → Own i (Some v)
+        second-blamed {u} {v} k m =
+            let p : Own o.b (Some v) = subst (Own o.b) m k in
+            (p.0, after-first ∙ blame-stops (leaves_of w b f o.b) _ row v p.1)
+
+        pub third-blamed : {u : Option ℕ} → Own o.b u → u ≡ None → (t : Option ℕ) → Own o.c t → Own i t
+        third-blamed {u} k m t q =
+            subst (λ x. blames x t) (sym (after-first ∙ blame-goes (leaves_of w b f o.b) (leaves_of w b f o.c) row (subst (Own o.b) m k))) q

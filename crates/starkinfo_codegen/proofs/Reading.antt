@@ -1,12 +1,13 @@
 -- What the tests of the code tell of a node in the table: its operation, and a leaf's reference. Over plain variables.
 -- Assumes nothing.
 use Prim.Native.Nat.{ℕ, suc, ◌+◌, ◌<◌, ◌≤◌}
-use mathlib.Core.Path.{◌≡◌, refl, sym, ◌∙◌, ap}
+use mathlib.Core.Path.{◌≡◌, refl, sym, ◌∙◌, ap, subst}
 use mathlib.Core.Bool.{Bool, true, false, cond}
 use mathlib.Core.List.{List}
 use mathlib.Core.Logic.{◌⊎◌, inl, inr}
 use native.Mathlib.Omega.{arith}
 use lib.Dec.{eqb}
+use Rattle.std.specs.Prelude.{Option, Some, None}
 use borrow.Author.Tests.{eq-eqb, ne_eqb, eqb-true, eqb-false}
 use Rattle.kinds.specs.KindBytes as kind
 use Rattle.kinds.specs.OpBytes as op
@@ -17,7 +18,8 @@ use Rattle.frames.specs.declared.node.Node.{Node}
 use Rattle.pool.specs.Trees.{Class, leafy, class}
 use Rattle.pool.specs.Laws.Trees.{class-leafy}
 use Rattle.starkinfo_codegen.specs.Words.{node_of_words}
-use Rattle.starkinfo_codegen.specs.Operations.{nothing, operation, pair_at, product_at, fused_of, operation_by, operation_at}
+use Rattle.starkinfo_codegen.specs.declared.operation.Operation.{Operation}
+use Rattle.starkinfo_codegen.specs.Operations.{nothing, operation, pair_at, product_at, fused_of, operation_by, operation_at, computes}
 use Rattle.starkinfo_codegen.specs.Sources.{leaf_by, step_with}
 
 -- ── an add, fused ────────────────────────────────────────────────────────────
@@ -34,6 +36,30 @@ module _ (w : List ℕ) (a b : ℕ) where
     pub fused-neither : ((node_of_words w b).kind ≡ kind.mul → ⊥) → fused_of w a b ≡ operation op.add a b nothing
     unfolding fused_of
     fused-neither m = rw (ne_eqb (node_of_words w a).kind kind.mul n, ne_eqb (node_of_words w b).kind kind.mul m)
+
+  -- it is a step either way
+  pub fused-steps : (fused_of w a b).op ≡ 0 → ⊥
+  unfolding fused_of
+  fused-steps = go (eqb (node_of_words w a).kind kind.mul) (eqb (node_of_words w b).kind kind.mul)
+    where
+      go : (x y : Bool) → (cond x (product_at w a b) (cond y (product_at w b a) (operation op.add a b nothing))).op ≡ 0 → ⊥
+      go true y h = omega (arith, h)
+      go false true h = omega (arith, h)
+      go false false h = omega (arith, h)
+
+-- ── what a node computes ─────────────────────────────────────────────────────
+pub is_step : {o : Operation} {k a b c : ℕ} → o ≡ operation k a b c → 0 < k → o.op ≡ 0 → ⊥
+is_step {o} {k} e h z = let u : o.op ≡ k = ap (λ (x : Operation). x.op) e in omega (arith, h, z, u)
+
+pub steps_as : {o p : Operation} → o ≡ p → (p.op ≡ 0 → ⊥) → o.op ≡ 0 → ⊥
+steps_as e n z = n (sym (ap (λ (x : Operation). x.op) e) ∙ z)
+
+module _ (w : List ℕ) (f : Bool) (i : ℕ) {r : Option Operation} (g : computes w f i r) where
+  pub does_step : {o : Operation} → r ≡ Some o → (o ≡ operation_at w f i) × (o.op ≡ 0 → ⊥)
+  does_step {o} e = subst (computes w f i) e g
+
+  pub no_step : r ≡ None → (operation_at w f i).op ≡ 0
+  no_step e = subst (computes w f i) e g
 
 -- ── by kind ──────────────────────────────────────────────────────────────────
 -- the operation of a node of a known class

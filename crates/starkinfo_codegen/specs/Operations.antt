@@ -1,6 +1,6 @@
 -- What a node computes, as the code reads it off the table: the step, and its operands in order.
 -- Assumes nothing: these are definitions.
-use Rattle.std.specs.Prelude.{ℕ, Bool, cond, List, eqb}
+use Rattle.std.specs.Prelude.{ℕ, ◌≡◌, Option, Some, None, Bool, cond, List, eqb}
 use Rattle.meaning.specs.Trees.{Op, OpC}
 use Rattle.kinds.specs.KindBytes as kind
 use Rattle.kinds.specs.OpBytes as op
@@ -44,3 +44,8 @@ operation_by leafy w f i = operation 0 nothing nothing nothing
 
 unfoldable pub operation_at : List ℕ → Bool → ℕ → Operation
 operation_at w f i = operation_by (class (node_of_words w i).kind) w f i
+
+-- a node's operation, where it has one: a leaf has none
+abbrev pub computes : List ℕ → Bool → ℕ → Option Operation → Type 0
+computes w f i (Some o) = (o ≡ operation_at w f i) × (o.op ≡ 0 → ⊥)
+computes w f i None = (operation_at w f i).op ≡ 0

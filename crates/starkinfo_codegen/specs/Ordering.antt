@@ -1,7 +1,7 @@
 -- The order of blocks over tables: what finding a leaf out of rows, pil_code_gen and calculate_deps ask and give.
 -- A table of marks holds a byte for each cell, an expression at one of two rows; a table of jobs a word for each job.
 -- Assumes nothing: these are definitions.
-use Rattle.std.specs.Prelude.{ℕ, suc, ◌+◌, ◌-◌, ◌*◌, ◌<◌, ◌≤◌, ◌≡◌, Bool, false, ◌&&◌, cond, List, [], ◌∷◌, ◌⊎◌, length, get_or, ltb}
+use Rattle.std.specs.Prelude.{ℕ, suc, ◌+◌, ◌-◌, ◌*◌, ◌<◌, ◌≤◌, ◌≡◌, Bool, false, ◌&&◌, cond, Option, Some, None, List, [], ◌∷◌, ◌⊎◌, length, get_or, ltb}
 use Rattle.std.proofs.Math.Option.{some}
 use Rattle.meaning.specs.Refusals.{Refusal, Answer, done, refused}
 use Rattle.meaning.specs.Trees.{Placed, leaves, Each, Forest, Falls, Acyclic}
@@ -27,15 +27,16 @@ abbrev pub leaves_of : List ℕ → Rest → Bool → ℕ → List Placed
 leaves_of w b f i = part_leaves (part_of w b f i)
 
 -- ── a leaf out of rows ───────────────────────────────────────────────────────
--- a node is to blame; what is no node is none
-unfoldable pub verdict : ℕ → Answer (Unit {0})
-verdict r = cond (ltb r 4096) (refused Refusal.double_prime (some r)) (done tt)
+-- a node is to blame, or none is
+abbrev pub blames : Answer (Unit {0}) → Option ℕ → Type 0
+blames x (Some i) = (i < 4096) × (x ≡ refused Refusal.double_prime (some i))
+blames x None = x ≡ done tt
 
 abbrev pub LeafAsked : ℕ → ℕ → Type 0
 LeafAsked row i = (row < 2) × (i < 4096)
 
-abbrev pub LeafGiven : List ℕ → ℕ → ℕ → ℕ → Type 0
-LeafGiven w row i r = (l : List ℕ) → primed 2 (leaf_of (node_in w l i)) i row ≡ verdict r
+abbrev pub LeafGiven : List ℕ → ℕ → ℕ → Option ℕ → Type 0
+LeafGiven w row i r = (l : List ℕ) → blames (primed 2 (leaf_of (node_in w l i)) i row) r
 
 pub record OutAsks (w : List ℕ) (b : Rest) (f : Bool) (row i : ℕ) : Type 0 where
   pub pool : Pooled w b
@@ -45,13 +46,13 @@ pub record OutAsks (w : List ℕ) (b : Rest) (f : Bool) (row i : ℕ) : Type 0 w
 abbrev pub OutAsked : List ℕ → Bool → ℕ → ℕ → Type 0
 OutAsked w f row i = (b : Rest) × OutAsks w b f row i
 
-abbrev pub OutGiven : List ℕ → Bool → ℕ → ℕ → ℕ → Type 0
-OutGiven w f row i r = (b : Rest) → OutAsks w b f row i → own 2 (leaves_of w b f i) row ≡ verdict r
+abbrev pub OutGiven : List ℕ → Bool → ℕ → ℕ → Option ℕ → Type 0
+OutGiven w f row i r = (b : Rest) → OutAsks w b f row i → blames (own 2 (leaves_of w b f i) row) r
 
 -- where it is known that no leaf is out unless one was seen
-abbrev pub SeenGiven : List ℕ → Bool → ℕ → ℕ → Bool → ℕ → Type 0
+abbrev pub SeenGiven : List ℕ → Bool → ℕ → ℕ → Bool → Option ℕ → Type 0
 SeenGiven w f row i seen r =
-    (b : Rest) → OutAsks w b f row i → (seen ≡ false → own 2 (leaves_of w b f i) row ≡ done tt) → own 2 (leaves_of w b f i) row ≡ verdict r
+    (b : Rest) → OutAsks w b f row i → (seen ≡ false → own 2 (leaves_of w b f i) row ≡ done tt) → blames (own 2 (leaves_of w b f i) row) r
 
 -- ── marks and jobs ───────────────────────────────────────────────────────────
 abbrev pub cell_of : ℕ → ℕ → ℕ

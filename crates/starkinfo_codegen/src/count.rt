@@ -1,7 +1,7 @@
 // How many steps a tree takes, before any is written.
 ghost use Rattle.starkinfo_codegen.specs.Emitting.{CountAsked, CountGiven, SizeAsked, SizeGiven};
 
-use crate::operation::{Operation, operation_of};
+use crate::operation::operation_of;
 use crate::words::NODE_LIMIT;
 use frames::tables::NODE_WORDS;
 
@@ -13,10 +13,9 @@ fn count_steps(nodes: &[u64; NODE_WORDS], fused: bool, i: u16) -> usize
     if NODE_LIMIT <= i {
         return 0;
     }
-    let o = operation_of(nodes, fused, i);
-    if o.op == Operation::NONE {
+    let Some(o) = operation_of(nodes, fused, i) else {
         return 0;
-    }
+    };
     let a = count_steps(nodes, fused, o.a);
     let b = count_steps(nodes, fused, o.b);
     let c = count_steps(nodes, fused, o.c);
@@ -28,9 +27,5 @@ pub fn block_size(nodes: &[u64; NODE_WORDS], fused: bool, root: u16) -> usize
     requires { SizeAsked nodes.now root }
     ensures { SizeGiven nodes.now fused root result }
 {
-    let steps = count_steps(nodes, fused, root);
-    if steps == 0 {
-        return 1;
-    }
-    steps
+    count_steps(nodes, fused, root).max(1)
 }

@@ -2,7 +2,7 @@
 ghost use Rattle.std.specs.Prelude.{length};
 ghost use Rattle.starkinfo_codegen.specs.Emitting.{Asked, StepAsked, Given};
 
-use crate::operation::{Operation, operation_of};
+use crate::operation::operation_of;
 use crate::source::own_step;
 use crate::words::{NODE_LIMIT, count_of};
 use frames::tables::NODE_WORDS;
@@ -22,10 +22,9 @@ pub fn eval_step(
     requires { StepAsked nodes.now fused row at t i (length list.old) }
     ensures { Given nodes.now fused row at t i list.old list.new result }
 {
-    let o = operation_of(nodes, fused, i);
-    if o.op == Operation::NONE {
+    let Some(o) = operation_of(nodes, fused, i) else {
         return 0;
-    }
+    };
     let a = eval_exp(nodes, list, row, fused, at, t, o.a);
     let b = eval_exp(nodes, list, row, fused, at + a, t + a, o.b);
     let c = eval_exp(nodes, list, row, fused, at + a + b, t + a + b, o.c);
@@ -49,10 +48,7 @@ pub fn eval_exp(
     requires { Asked nodes.now fused row at t i (length list.old) }
     ensures { Given nodes.now fused row at t i list.old list.new result }
 {
-    if NODE_LIMIT <= i {
-        return 0;
-    }
-    if count_of(nodes, i) == 0 {
+    if NODE_LIMIT <= i || count_of(nodes, i) == 0 {
         return 0;
     }
     eval_step(nodes, list, row, fused, at, t, i)

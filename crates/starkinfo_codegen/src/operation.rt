@@ -2,7 +2,7 @@
 ghost use Rattle.std.specs.Prelude.{◌≡◌, ◌<◌};
 ghost use Rattle.kinds.specs.KindBytes.{add};
 ghost use Rattle.starkinfo_codegen.specs.Words.{node_of_words};
-ghost use Rattle.starkinfo_codegen.specs.Operations.{operation, product_at, fused_of, operation_at};
+ghost use Rattle.starkinfo_codegen.specs.Operations.{operation, product_at, fused_of, computes};
 
 use crate::words::{first_child, kind_of, second_child, third_child};
 use frames::tables::NODE_WORDS;
@@ -10,7 +10,7 @@ use kinds::kind::Kind;
 use kinds::step_op::StepOp;
 
 // An operand is a node, or one of two numbers that no node has.
-#[derive(Drop)]
+#[derive(Clone, Copy)]
 pub struct Operation {
     pub op: u8,
     pub a: u16,
@@ -24,18 +24,10 @@ pub const LITERAL: u16 = 4096;
 pub const NOTHING: u16 = 4097;
 
 impl Operation {
-    // The operation of a leaf.
-    pub const NONE: u8 = 0;
-
     fn new(op: u8, a: u16, b: u16, c: u16) -> Operation
         ensures { result ≡ operation op a b c }
     {
-        Operation {
-            op: op,
-            a: a,
-            b: b,
-            c: c,
-        }
+        Operation { op, a, b, c }
     }
 }
 
@@ -63,10 +55,10 @@ fn find_muladd(nodes: &[u64; NODE_WORDS], a: u16, b: u16) -> Operation
     Operation::new(StepOp::ADD, a, b, NOTHING)
 }
 
-// What a node computes: for an add, with a product fused into it or not.
-pub fn operation_of(nodes: &[u64; NODE_WORDS], fused: bool, i: u16) -> Operation
+// What a node computes: for an add, with a product fused into it or not. A leaf computes nothing.
+pub fn operation_of(nodes: &[u64; NODE_WORDS], fused: bool, i: u16) -> Option<Operation>
     requires { (i < 4096) × ((node_of_words nodes.now i).kind ≡ add → ((node_of_words nodes.now i).c0 < 4096) × ((node_of_words nodes.now i).c1 < 4096)) }
-    ensures { result ≡ operation_at nodes.now fused i }
+    ensures { computes nodes.now fused i result }
 {
     let kind = kind_of(nodes, i);
     let a = first_child(nodes, i);
@@ -74,16 +66,16 @@ pub fn operation_of(nodes: &[u64; NODE_WORDS], fused: bool, i: u16) -> Operation
     match kind {
         Kind::ADD => {
             if fused {
-                find_muladd(nodes, a, b)
+                Some(find_muladd(nodes, a, b))
             } else {
-                Operation::new(StepOp::ADD, a, b, NOTHING)
+                Some(Operation::new(StepOp::ADD, a, b, NOTHING))
             }
         }
-        Kind::SUB..=Kind::MUL => Operation::new(kind, a, b, NOTHING),
-        Kind::MULADD => Operation::new(StepOp::MULADD, a, b, third_child(nodes, i)),
-        Kind::ADDC => Operation::new(StepOp::ADD, a, LITERAL, NOTHING),
-        Kind::MULC => Operation::new(StepOp::MUL, a, LITERAL, NOTHING),
-        Kind::NEG => Operation::new(StepOp::SUB, LITERAL, a, NOTHING),
-        _ => Operation::new(Operation::NONE, NOTHING, NOTHING, NOTHING),
+        Kind::SUB..=Kind::MUL => Some(Operation::new(kind, a, b, NOTHING)),
+        Kind::MULADD => Some(Operation::new(StepOp::MULADD, a, b, third_child(nodes, i))),
+        Kind::ADDC => Some(Operation::new(StepOp::ADD, a, LITERAL, NOTHING)),
+        Kind::MULC => Some(Operation::new(StepOp::MUL, a, LITERAL, NOTHING)),
+        Kind::NEG => Some(Operation::new(StepOp::SUB, LITERAL, a, NOTHING)),
+        _ => None,
     }
 }

@@ -1,5 +1,5 @@
 // Which blocks a request makes, and in which order: `pil_code_gen` and `calculate_deps`.
-ghost use Rattle.std.specs.Prelude.{◌≡◌, ◌||◌, ◌<◌};
+ghost use Rattle.std.specs.Prelude.{◌≡◌, ◌<◌};
 ghost use Rattle.starkinfo_codegen.specs.Ordering.{job_at, CodeAsked, CodeGiven, DepsAsked, DepsGiven, LeafDepsAsked, QuietGiven};
 
 use crate::out::{ROWS, first_seen};
@@ -13,25 +13,17 @@ use kinds::kind::Kind;
 // A cell is an expression at a row; a job is a cell to be written, in the order of the jobs.
 pub const JOB_LIMIT: usize = 1024;
 
-// A refusal is this and the node to blame.
+// A refusal is this and the node to blame: a number and no `Result`, which would travel through memory, with some 60 bytes of stack more at every
+// level of this recursion (measured on one of its shape).
 pub const REFUSED: usize = JOB_LIMIT + 1;
 
 const MARKED: u8 = 1;
 
 // What the leaves of a tree ask for: the count of jobs, or a refusal. `out` is false only where no leaf reads a row that is not there.
-#[derive(Drop)]
+#[derive(Clone, Copy)]
 pub struct Deps {
     pub jobs: usize,
     pub out: bool,
-}
-
-fn either(a: bool, b: bool) -> bool
-    ensures { result ≡ (a || b) }
-{
-    if a {
-        return true;
-    }
-    b
 }
 
 // A job: its cell, and is it fused?
@@ -39,10 +31,7 @@ fn job(cell: usize, fused: bool) -> u64
     requires { cell < 1024 }
     ensures { result ≡ job_at cell fused }
 {
-    if fused {
-        return (cell * 2 + 1) as u64;
-    }
-    (cell * 2) as u64
+    (cell * 2 + usize::from(fused)) as u64
 }
 
 // A cell without a mark: the cells that its tree asks for first, then its own job and mark. The answer is the count of jobs, or a refusal.
@@ -73,9 +62,8 @@ pub fn pil_code_gen(
     if JOB_LIMIT < after {
         return after;
     }
-    let out = first_seen(nodes, fused, row, root, deps.out);
-    if out < NODE_LIMIT {
-        return REFUSED + (out as usize);
+    if let Some(blamed) = first_seen(nodes, fused, row, root, deps.out) {
+        return REFUSED + (blamed as usize);
     }
     marks[cell] = MARKED;
     jobs[after] = job(cell, fused);
@@ -175,15 +163,12 @@ pub fn calculate_deps(
         second_child(nodes, i),
     );
     let second = b.jobs;
-    let out = either(a.out, b.out);
     if JOB_LIMIT < second {
         return b;
     }
+    let out = a.out || b.out;
     if count == 2 {
-        return Deps {
-            jobs: second,
-            out: out,
-        };
+        return Deps { jobs: second, out };
     }
     let c = calculate_deps(
         nodes,
@@ -197,6 +182,6 @@ pub fn calculate_deps(
     );
     Deps {
         jobs: c.jobs,
-        out: either(out, c.out),
+        out: out || c.out,
     }
 }

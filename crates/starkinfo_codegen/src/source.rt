@@ -83,7 +83,7 @@ pub fn copy_step(dest: Reference, r: Reference) -> Step
         op: StepOp::COPY,
         count: 1,
         origin: Step::NO_ORIGIN,
-        dest: dest,
+        dest,
         s0: r,
         s1: Reference::blank(),
         s2: Reference::blank(),

@@ -11,7 +11,7 @@ use kinds::step::nth_step;
 use output::line::{LINE_SIZE, counter_line, refusal_line, step_line};
 use requests::whole::Totals;
 
-// A refusal's number, or 0 and then how many steps and temporaries there are.
+// A refusal's number, or 0 and then how many steps and temporaries there are. A number and no Result: `output_line` takes any, and `line_no` speaks of all.
 #[derive(Clone, Copy)]
 pub struct Shown {
     pub refusal: u8,

@@ -15,7 +15,7 @@ sessions constraints SEED COUNT compares COUNT random constraint polynomials, in
 sessions sections SEED COUNT    compares COUNT random lists of records, mapped into their sections, with the original
 sessions garbage SEED COUNT     calls every function COUNT times with good, damaged and random input
 sessions all SEED PERCENT       all of these, PERCENT of the full run, in one table
-sessions stack                  prints how much stack plans, walks and searches need on the deepest pools
+sessions stack                  prints how much stack the exported functions need on the deepest pools
 
 A session is a pool with requests, some asking for results, and builds, from a fresh context. A
 refused call must leave all that was lent as it was; the original is put back to before it, and

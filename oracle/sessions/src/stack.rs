@@ -4,9 +4,10 @@ use crate::planned::{Lent, Sent, Stage};
 use crate::record::{framed, pool_frames};
 use enonkasse_sys::{
     self as library, CONSTRAINT_NUMBERS, CONSTRAINT_TOTALS, CONTEXT_SIZE, LIST_ROOM,
-    MAX_FRAMES_SIZE, SET_BIT_WORDS, SET_WORDS, STEP_SIZE,
+    MAX_FRAMES_SIZE, NO_ORIGIN, REFERENCE_SIZE, SET_BIT_WORDS, SET_WORDS, STEP_SIZE, VALUE_PARTS,
 };
 use judge::case::{cm, exp, mul, neg, number, plain_pool, Tree};
+use judge::kinds::{Kind, Step};
 use judge::pool::{Pool, MAX_EXPRESSIONS, MAX_NODES};
 use judge::script::Request;
 use plans::input::{Draft, Input};
@@ -29,6 +30,9 @@ const PAINT: u64 = 0x5a17_c0de_5a17_c0de;
 
 /// Nodes that a pool has room for twice, with a constraint's own.
 const COPIED: usize = 2_040;
+
+/// One more than the evaluator has room for: its list is looked at once more.
+const CELLS: u16 = 16_385;
 
 /// Visits enough to reach the bottom of every pool here.
 const VISITS: u64 = 200_000;
@@ -108,6 +112,7 @@ fn calls(pool: &Pool) -> Vec<(&'static str, Call<'_>)> {
         calls.push(("search", Box::new(search)));
     }
     calls.push(("run", Box::new(run(pool))));
+    calls.push(("evaluate", Box::new(evaluate(frames.clone()))));
     calls.push(("constraint_pool", Box::new(constraint_pool(frames.clone(), last))));
     for more in [0, 4] {
         let frames = frames.clone();
@@ -123,6 +128,27 @@ fn run(pool: &Pool) -> impl Fn() -> u8 {
     let mut frames = pool_frames(pool);
     frames.extend(framed([request(false), request(true)]));
     move || library::run(&frames, &mut vec![0; STEP_SIZE * LIST_ROOM], &mut [0; 2])
+}
+
+/// As many temporaries as cells, each a copy of cm 0.
+fn evaluate(frames: Vec<u8>) -> impl Fn() -> u8 {
+    let list: Vec<u8> = (0..CELLS).flat_map(copied).collect();
+    let mut values = vec![0; VALUE_PARTS + 2];
+    values[0] = 2;
+    move || library::evaluate(&frames, &list, 7, &values, &mut vec![0; 1 << 18], &mut [0])
+}
+
+/// A step that copies cm 0 to a temporary: step byte, count, origin, then the references.
+fn copied(temporary: u16) -> Vec<u8> {
+    let mut step = vec![Step::COPY.byte(), 1];
+    step.extend((NO_ORIGIN as u16).to_be_bytes());
+    for (kind, id) in [(Kind::TMP, temporary), (Kind::CM, 0)] {
+        step.extend([kind.byte(), 0]);
+        step.extend(id.to_be_bytes());
+        step.resize(step.len() + REFERENCE_SIZE - 4, 0);
+    }
+    step.resize(STEP_SIZE, 0);
+    step
 }
 
 /// With the last expression as its identity and its member.

@@ -7,9 +7,6 @@ use Rattle.plan_tables.proofs.exp2pol.place_columns.Goals as goal
 pub loop-k-init : goal.loop-k-init
 loop-k-init c = (omega arith, λ n a. places-begin a c.args.temporaries.now)
 
-pub overflow_sub-k : goal.overflow_sub-k
-overflow_sub-k c = omega (arith, c.requires.1.few, c.loop-k.invariant.0, c.loop-k-test.true)
-
 pub offset_bounds-columns-k : goal.offset_bounds-columns-k
 offset_bounds-columns-k c = omega (arith, c.requires.1.few, c.loop-k.invariant.0, c.loop-k-test.true)
 

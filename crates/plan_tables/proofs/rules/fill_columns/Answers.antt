@@ -8,9 +8,6 @@ use Rattle.plan_tables.proofs.rules.fill_columns.Goals as goal
 pub loop-k-init : goal.loop-k-init
 loop-k-init c = (omega arith, λ l n m rank a. rules_begin a c.args.cmdims.now)
 
-pub overflow_sub-k : goal.overflow_sub-k
-overflow_sub-k c = omega (arith, c.requires.4.few, c.loop-k.invariant.0, c.loop-k-test.true)
-
 pub offset_bounds-columns-k : goal.offset_bounds-columns-k
 offset_bounds-columns-k c = omega (arith, c.requires.4.few, c.loop-k.invariant.0, c.loop-k-test.true)
 

@@ -2,17 +2,11 @@
 -- Assumes nothing.
 use native.Mathlib.Omega.{arith}
 use mathlib.Core.Path.{refl}
-use Rattle.starkinfo_codegen.proofs.Blocks.{eval-asks, leaf-asks, copy-room, copy_gives, last-room, dest-room, into_gives}
+use Rattle.starkinfo_codegen.proofs.Blocks.{eval-asks, leaf-asks, copy_gives, last-room, dest-room, into_gives}
 use Rattle.starkinfo_codegen.proofs.block.block.Goals as goal
 
 pub eval_step-steps-requires : goal.eval_step-steps-requires
 eval_step-steps-requires c = ((c.requires.0, eval-asks c.args.nodes.now c.requires.0 c.args.fused c.args.row c.args.t c.args.root c.args.e c.requires.1), (leaf-asks c.args.nodes.now c.requires.0 c.args.fused c.args.row c.args.t c.args.root c.args.e c.requires.1).0)
-
-pub leaf_reference-leaf-requires : goal.leaf_reference-leaf-requires
-leaf_reference-leaf-requires c = leaf-asks c.args.nodes.now c.requires.0 c.args.fused c.args.row c.args.t c.args.root c.args.e c.requires.1
-
-pub put_nth_step-requires : goal.put_nth_step-requires
-put_nth_step-requires c = copy-room c.args.nodes.now c.requires.0 c.args.fused c.args.row c.args.t c.args.root c.args.e c.requires.1 c.eval_step-steps.auto.list
 
 pub returns-then-steps-eq0 : goal.returns-then-steps-eq0
 returns-then-steps-eq0 c = λ b a. copy_gives c.args.nodes.now b c.args.fused c.args.row c.args.t c.args.root c.args.e a (c.eval_step-steps.ensures b (eval-asks c.args.nodes.now b c.args.fused c.args.row c.args.t c.args.root c.args.e a)) c.if-steps-eq0.true c.leaf_reference-leaf.ensures c.plain-cell.ensures c.copy_step.ensures c.put_nth_step.ensures

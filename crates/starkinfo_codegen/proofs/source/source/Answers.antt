@@ -1,7 +1,5 @@
 -- `starkinfo_codegen::source::source` meets its contract: the tests are those of `source_in`.
 -- Assumes nothing.
-use native.Mathlib.Omega.{arith}
-use Prim.Native.Nat.{◌<◌}
 use borrow.Author.Tests.{eq-eqb, ne_eqb}
 use Rattle.starkinfo_codegen.specs.Sources.{source_in}
 use Rattle.starkinfo_codegen.proofs.source.source.Goals as goal
@@ -13,9 +11,6 @@ returns-then-operand-eq-LITERAL c = simp (eq-eqb _ _ c.if-operand-eq-LITERAL.tru
 pub returns-then-operand-eq-NOTHING : goal.returns-then-operand-eq-NOTHING
 unfolding source_in
 returns-then-operand-eq-NOTHING c = simp (ne_eqb _ _ c.if-operand-eq-LITERAL.false, eq-eqb _ _ c.if-operand-eq-NOTHING.true) c.blank.ensures
-
-pub leaf_reference-requires : goal.leaf_reference-requires
-leaf_reference-requires c = let h : c.args.operand < 4096 = omega (arith, c.requires.0.known, c.if-operand-eq-LITERAL.false, c.if-operand-eq-NOTHING.false) in (h, c.requires.0.row_fits h)
 
 pub returns-then-taken-eq0 : goal.returns-then-taken-eq0
 unfolding source_in
