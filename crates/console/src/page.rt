@@ -13,9 +13,7 @@ pub fn put(rt: &impl Print, page: &mut [u8], used: usize, text: &[u8], n: usize)
         return used;
     }
     let from = make_room(rt, page, used, n);
-    for i in 0..n {
-        page[from + i] = text[i];
-    }
+    page[from..from + n].copy_from_slice(&text[..n]);
     from + n
 }
 

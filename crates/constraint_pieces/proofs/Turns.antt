@@ -2,14 +2,16 @@
 -- Assumes nothing.
 use Prim.Native.Nat.{ℕ, suc, ◌+◌, ◌*◌, ◌<◌, ◌≤◌}
 use mathlib.Core.Path.{◌≡◌, refl, sym, ◌∙◌, ap, subst}
-use mathlib.Core.Bool.{Bool, true, false, cond}
+use mathlib.Core.Bool.{Bool, true, false, cond, ◌&&◌}
 use mathlib.Core.Option.{none}
-use mathlib.Core.List.{List}
+use mathlib.Core.List.{List, [], ◌∷◌}
 use native.Mathlib.Omega.{arith}
+use lib.Dec.{ltb}
 use lib.ListN.{length, get_or, set, drop}
 use lib.Seq.{drop-cons, drop-length}
-use borrow.Author.Tests.{le-ltb, lt-ltb, le-leb, lt-leb}
+use borrow.Author.Tests.{le-leb, lt-leb}
 use Rattle.std.specs.Prelude.{Ok}
+use Rattle.std.specs.List.{list_all}
 use Rattle.kinds.specs.Answers.{refusing}
 use Rattle.kinds.specs.declared.refusal.Refusal.TheVariants as refusal
 use Rattle.meaning.specs.Refusals.{Refusal, Answer, done, refused}
@@ -42,19 +44,9 @@ all-marked es X s k h g l =
     rw (z, drop-length es) at h
 
 -- ── looked at one by one ─────────────────────────────────────────────────────
-module _ (m : ℕ) (es : List ℕ) (k : ℕ) (h : all_below m es ≡ all_below m (drop k es)) where
-  pub one-past : k < length es → m ≤ get_or es k 0 → false ≡ all_below m es
-  one-past g l = sym (h ∙ rw (drop-cons es k 0 g, le-ltb (get_or es k 0) m l))
-
-  pub one_below : k < length es → get_or es k 0 < m → all_below m es ≡ all_below m (drop (k + 1) es)
-  one_below g l =
-      let z : k + 1 ≡ suc k = omega arith in
-      rw z (h ∙ rw (drop-cons es k 0 g, lt-ltb (get_or es k 0) m l))
-
-  pub all_looked : k ≤ length es → length es ≤ k → true ≡ all_below m es
-  all_looked g l =
-      let z : k ≡ length es = omega arith in
-      sym (h ∙ rw (z, drop-length es))
+pub all-below-is : (m : ℕ) (es : List ℕ) → list_all (λ x. ltb x m) es ≡ all_below m es
+all-below-is m [] = refl
+all-below-is m (e ∷ es) = ap (λ v. ltb e m && v) (all-below-is m es)
 
 -- ── a context marked ─────────────────────────────────────────────────────────
 module _ {es x : List ℕ} (a : MarkGoodAsks es x) where

@@ -27,20 +27,15 @@ pub fn mark_members(marks: &mut [u8; JOB_LIMIT], members: &[u64])
     requires { AllBelow expression_limit members.now }
     ensures { marks.new ≡ mark_all members.now marks.old }
 {
-    for k in 0..members.len() {
-        mark_one(marks, members[k] as usize);
+    for e in members {
+        mark_one(marks, *e as usize);
     }
 }
 
 fn all_there(members: &[u64], m: usize) -> bool
     ensures { result ≡ all_below m members.now }
 {
-    for k in 0..members.len() {
-        if m <= members[k] as usize {
-            return false;
-        }
-    }
-    true
+    members.iter().all(|e| (*e as usize) < m)
 }
 
 // In a context of its size; no other byte of it changes.

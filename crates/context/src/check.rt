@@ -57,12 +57,7 @@ fn marks_good(context: &[u8], m: usize) -> bool
     requires { MarksChecked context.now m }
     ensures { Exactly result (Marks context.now m) }
 {
-    for cell in 0..JOB_LIMIT {
-        if !mark_good(context[MARKS_AT + cell], cell, m) {
-            return false;
-        }
-    }
-    true
+    (0..JOB_LIMIT).all(|cell| mark_good(context[MARKS_AT + cell], cell, m))
 }
 
 fn block_good(context: &[u8], k: usize, m: usize) -> bool
@@ -81,13 +76,7 @@ fn blocks_good(context: &[u8], m: usize) -> bool
     requires { BlocksChecked context.now m }
     ensures { Exactly result (Blocks context.now m) }
 {
-    let n = blocks_of(context);
-    for k in 0..n {
-        if !block_good(context, k, m) {
-            return false;
-        }
-    }
-    true
+    (0..blocks_of(context)).all(|k| block_good(context, k, m))
 }
 
 fn cells_apart(context: &[u8]) -> bool

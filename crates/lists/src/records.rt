@@ -35,13 +35,6 @@ fn good_record(list: &[u8], at: usize) -> bool
 pub fn good_list(list: &[u8]) -> bool
     ensures { result ≡ good_list list.now }
 {
-    if list.len() % STEP_SIZE != 0 {
-        return false;
-    }
-    for k in 0..list.len() / STEP_SIZE {
-        if !good_record(list, STEP_SIZE * k) {
-            return false;
-        }
-    }
-    true
+    list.len() % STEP_SIZE == 0
+        && (0..list.len() / STEP_SIZE).all(|k| good_record(list, STEP_SIZE * k))
 }

@@ -1,11 +1,12 @@
 -- One number, row or offset more. Assumes nothing.
-use Prim.Native.Nat.{ℕ, ◌+◌, ◌/◌, ◌%◌, ◌<◌}
-use mathlib.Core.Path.{◌≡◌, sym, ◌∙◌, ap, subst}
+use Prim.Native.Nat.{ℕ, ◌+◌, ◌/◌, ◌%◌, ◌<◌, ◌≤◌}
+use mathlib.Core.Path.{◌≡◌, sym, ◌∙◌, ap}
 use mathlib.Core.List.{List, [], ◌∷◌}
 use native.Mathlib.Omega.{arith}
 use native.Mathlib.Numerals.{add-one}
 use lib.ListN.{length, get_or, take}
 use lib.Seq.{take-suc}
+use Rattle.std.proofs.lemmas.List.{take_all}
 use Rattle.kinds.specs.Write.{write}
 use Rattle.kinds.specs.BigEndian.{u16_bytes}
 use Rattle.plan_map.specs.Numbers.{quarters}
@@ -37,5 +38,5 @@ module _ (xs : List ℕ) where
   pub number-next : {l t t' : List ℕ} {at e : ℕ} (k : ℕ) → k < length xs → Puts l at (take k xs) t e → t' ≡ write t e (u16_bytes (get_or xs k 0)) → Puts l at (take (k + 1) xs) t' (e + 2)
   number-next {e = e} k h g q = puts-is (sym (ap (λ n. take n xs) (add-one k) ∙ take-suc xs k 0 h)) (puts-next g (puts_one e (get_or xs k 0) q))
 
-  pub numbers-all : {l t : List ℕ} {at e : ℕ} (k n : ℕ) → Puts l at (take k xs) t e → k ≡ n → Puts l at (take n xs) t e
-  numbers-all {l} {t} {at} {e} k n g q = subst (λ m. Puts l at (take m xs) t e) q g
+  pub numbers-all : {l t : List ℕ} {at e : ℕ} (k : ℕ) → Puts l at (take k xs) t e → length xs ≤ k → Puts l at xs t e
+  numbers-all k g h = puts-is (take_all k xs h) g

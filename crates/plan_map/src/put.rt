@@ -44,8 +44,8 @@ pub fn put_offsets(offsets: &[u64; OFFSETS], out: &mut [u8]) -> usize
     ensures { Puts out.old 0 (rows_by (offset_row offsets.now) offset_count) out.new result }
 {
     let mut at: usize = 0;
-    for s in 0..OFFSETS {
-        at = put_offset(offsets[s], out, at);
+    for offset in offsets {
+        at = put_offset(*offset, out, at);
     }
     at
 }
@@ -56,8 +56,8 @@ pub fn put_numbers(numbers: &[u16], n: usize, out: &mut [u8], from: usize) -> us
     ensures { Puts out.old from (take n numbers.now) out.new result }
 {
     let mut at = from;
-    for k in 0..n {
-        put_u16(out, at, numbers[k]);
+    for number in &numbers[..n] {
+        put_u16(out, at, *number);
         at += NUMBER_SIZE;
     }
     at

@@ -12,9 +12,7 @@ pub fn put_text(page: &mut [u8], used: usize, text: &[u8]) -> usize
     if page.len() - used < text.len() {
         return used;
     }
-    for i in 0..text.len() {
-        page[used + i] = text[i];
-    }
+    page[used..used + text.len()].copy_from_slice(text);
     used + text.len()
 }
 

@@ -1,27 +1,12 @@
--- `constraint_pieces::mark::all_there` meets its contract: whether all are there hangs on those from k on.
+-- `constraint_pieces::mark::all_there` meets its contract: the test of each is one of `all`.
 -- Assumes nothing.
-use mathlib.Core.Path.{refl}
-use native.Mathlib.Omega.{arith}
-use Rattle.constraint_pieces.proofs.Turns.{one-past, one_below, all_looked}
+use mathlib.Core.Path.{◌∙◌}
+use lib.Dec.{ltb}
+use Rattle.std.proofs.Common.{rules, tests}
+use Rattle.std.proofs.lemmas.Iterator.{YieldsList-from_slice}
+use Rattle.std.proofs.lemmas.Iterator.Search.{all_from_yields_List}
+use Rattle.constraint_pieces.proofs.Turns.{all-below-is}
 use Rattle.constraint_pieces.proofs.mark.all_there.Goals as goal
 
-pub loop-k-init : goal.loop-k-init
-loop-k-init c = (omega arith, refl)
-
-pub offset_bounds-members-k : goal.offset_bounds-members-k
-offset_bounds-members-k c = omega (arith, c.loop-k-test.true)
-
-pub bounds-members-k : goal.bounds-members-k
-bounds-members-k c = omega (arith, c.loop-k-test.true)
-
-pub returns-then-m-members : goal.returns-then-m-members
-returns-then-m-members c = one-past _ _ _ c.loop-k.invariant.1 c.loop-k-test.true c.if-m-members.true
-
-pub loop-k-smaller : goal.loop-k-smaller
-loop-k-smaller c = omega (arith, c.loop-k-test.true)
-
-pub loop-k-preserved : goal.loop-k-preserved
-loop-k-preserved c = (omega (arith, c.loop-k-test.true), one_below _ _ _ c.loop-k.invariant.1 c.loop-k-test.true c.if-m-members.false)
-
 pub returns : goal.returns
-returns c = all_looked _ _ _ c.loop-k.invariant.1 c.loop-k.invariant.0 c.loop-k-test.false
+returns c = all_from_yields_List (λ x. ltb x c.args.m) _ _ _ c.all.ensures.ran (YieldsList-from_slice c.args.members.now cc) (λ x b q k. search (rules, tests)) ∙ all-below-is c.args.m c.args.members.now

@@ -1,4 +1,4 @@
--- `constraint_pieces::mark::mark_members` meets its contract: the members from k on are left to mark.
+-- `constraint_pieces::mark::mark_members` meets its contract: the members from the next on are left to mark.
 -- Assumes nothing.
 use Prim.Native.Nat.{◌-◌, ◌≤◌}
 use mathlib.Core.Path.{◌≡◌}
@@ -6,8 +6,8 @@ use lib.ListN.{length, drop}
 use Rattle.constraint_pieces.specs.Marks.{mark_all}
 use Rattle.constraint_pieces.proofs.mark.mark_members.Given as goal
 
-abbrev pub invariant-loop-k : goal.invariant-loop-k
-invariant-loop-k l = (l.k ≤ length l.members) × (mark_all (drop l.k l.members) l.marks ≡ mark_all l.members l.initial.marks)
+abbrev pub invariant-loop-e : goal.invariant-loop-e
+invariant-loop-e l = (l.e-index ≤ length l.members) × (mark_all (drop l.e-index l.members) l.marks ≡ mark_all l.members l.initial.marks)
 
-abbrev pub decreases-loop-k : goal.decreases-loop-k
-decreases-loop-k l = length l.members - l.k
+abbrev pub decreases-loop-e : goal.decreases-loop-e
+decreases-loop-e l = length l.members - l.e-index

@@ -1,24 +1,17 @@
--- `lists::records::good_list` meets its contract: the records before k are well formed.
+-- `lists::records::good_list` meets its contract: the test of each record is one of `all`.
 -- Assumes nothing.
-use mathlib.Core.Path.{refl}
-use native.Mathlib.Omega.{arith}
-use Rattle.lists.specs.Laws.{good-begin, good-next, good-stop, good-cut, good-end, record_in}
+use Rattle.std.proofs.Common.{◌≡◌, refl, ◌∙◌, ne_eqb, true, false, arith, rules, tests}
+use Rattle.std.proofs.lemmas.Iterator.{YieldsList-from_range, cases_from_all}
+use Rattle.lists.specs.Records.{record_count}
+use Rattle.lists.specs.Laws.{good-cut}
+use Rattle.lists.proofs.Whole.{test, looked}
 use Rattle.lists.proofs.records.good_list.Goals as goal
 
-pub returns-then-list-ne0 : goal.returns-then-list-ne0
-returns-then-list-ne0 c = good-cut _ c.if-list-ne0.true
+pub returns-then-list-eq0 : goal.returns-then-list-eq0
+returns-then-list-eq0 c =
+    let l = c.args.list.now in
+    let n = record_count l in
+    looked l _ (cases_from_all _ _ _ (λ k. test l k ≡ true) (λ k. test l k ≡ false) c.all.ensures.ran (YieldsList-from_range 0 n n refl (omega arith)) (λ x q k. search (rules, tests)) (λ x q k. search (rules, tests))) c.if-list-eq0.true
 
-pub loop-k-init : goal.loop-k-init
-loop-k-init c = good-begin _
-
-pub good_record-requires : goal.good_record-requires
-good_record-requires c = record_in c.args.list.now c.loop-k.k c.loop-k-test.true
-
-pub returns-then-not-good_record : goal.returns-then-not-good_record
-returns-then-not-good_record c = good-stop _ _ _ refl _ c.good_record.ensures c.loop-k-test.true c.if-list-ne0.false c.if-not-good_record.true
-
-pub loop-k-preserved : goal.loop-k-preserved
-loop-k-preserved c = good-next _ _ _ refl _ c.good_record.ensures c.loop-k.invariant c.if-not-good_record.false
-
-pub returns : goal.returns
-returns c = good-end _ _ c.loop-k.invariant c.loop-k.auto.k-end (omega arith) c.if-list-ne0.false
+pub returns-else-list-eq0 : goal.returns-else-list-eq0
+returns-else-list-eq0 c = ne_eqb _ 0 c.if-list-eq0.false ∙ good-cut _ c.if-list-eq0.false

@@ -1,12 +1,12 @@
--- `plan_map::put::put_offsets` meets its contract: the offsets before s stand there. Assumes nothing.
+-- `plan_map::put::put_offsets` meets its contract: the offsets before the next stand there. Assumes nothing.
 use Prim.Native.Nat.{◌≤◌, ◌-◌}
 use Rattle.plan_tables.specs.Tables.{offset_count}
 use Rattle.plan_map.specs.Numbers.{rows_by, offset_row}
 use Rattle.plan_map.specs.Puts.{Puts}
 use Rattle.plan_map.proofs.put.put_offsets.Given as goal
 
-abbrev pub invariant-loop-s : goal.invariant-loop-s
-invariant-loop-s l = (l.s ≤ offset_count) × Puts l.initial.out 0 (rows_by (offset_row l.offsets) l.s) l.out l.at
+abbrev pub invariant-loop-offset : goal.invariant-loop-offset
+invariant-loop-offset l = (l.offset-index ≤ offset_count) × Puts l.initial.out 0 (rows_by (offset_row l.offsets) l.offset-index) l.out l.at
 
-abbrev pub decreases-loop-s : goal.decreases-loop-s
-decreases-loop-s l = offset_count - l.s
+abbrev pub decreases-loop-offset : goal.decreases-loop-offset
+decreases-loop-offset l = offset_count - l.offset-index
