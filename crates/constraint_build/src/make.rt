@@ -13,7 +13,7 @@ use kinds::refusal::Refused;
 use starkinfo_codegen::order::JOB_LIMIT;
 
 // Of `count` nodes and `m` expressions, of which the last is the constraint; `members` are its intermediates.
-// The slices of a context are no struct: one that holds them as `&mut` and is passed on to a call is not covered by the borrow checker.
+// The slices of a context are no struct: `fit_list` reads five of them at once, and of fields that are `&mut` the borrow checker covers no such call (docs/DECISIONS.md, Toolchain).
 pub fn make_lists(
     nodes: &[u64; NODE_WORDS],
     literals: &[u64; NODE_LIMIT],

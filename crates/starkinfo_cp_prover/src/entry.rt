@@ -16,7 +16,7 @@ use sets::SET_WORDS;
 
 // Frames, each behind its length; requests among them are read and not served. `context` with its list is the caller's, for step3, and the other for step42ns; each has room
 // for its first, i and last lists. The frames of the pool with the constraint stand at the front of `out`, and the intermediates in `chosen`.
-// Ten slices and no struct for each context: one that holds `&mut [u8]` and is passed on does not prove (see constraint_build::make).
+// Ten slices and no struct for each context, as in constraint_build::make.
 pub fn generate_constraint_polynomial(
     s: &[u8],
     identities: &[u64],
