@@ -1,23 +1,19 @@
--- Readings: after one that gave no degree, the better of two, and whether the best adds no member.
+-- Readings: the degree of one, after one that gave no degree, and as numbers.
 -- Assumes nothing.
 use Prim.Native.Nat.{ℕ, ◌<◌, ◌≤◌}
 use mathlib.Core.Path.{◌≡◌, refl, sym, ◌∙◌, ap, subst}
 use mathlib.Core.Bool.{Bool, true, false, cond}
-use mathlib.Core.Option.{none, some}
-use mathlib.Core.List.{List}
-use mathlib.Core.Logic.{inl, inr}
+use mathlib.Core.Option.{none}
 use native.Mathlib.Omega.{arith}
 use lib.Dec.{eqb}
 use Rattle.std.specs.Prelude.{Option, Some, None, Ok, Err, is_some}
-use lib.ListN.{length}
-use borrow.Author.Tests.{ne_eqb, lt-ltb, le-ltb}
+use borrow.Author.Tests.{ne_eqb, le-ltb}
 use Rattle.meaning.specs.Refusals.{Refusal}
-use Rattle.search_meaning.specs.Search.{Tally, done, refused, counted, Found, found, Reads, visit, better}
-use Rattle.sets.specs.Members.{members, Good}
+use Rattle.search_meaning.specs.Search.{Tally, done, refused, counted, Reads, visit}
 use Rattle.degree_rule.specs.declared.reading.Stop.{Stop}
 use Rattle.degree_rule.specs.declared.reading.Stop.TheVariants.{BadKind, OverLimit}
 use Rattle.degree_rule.specs.Tallies.{Counts, tally_of, limit_in, Whole, Entered}
-use Rattle.degree_rule.specs.Readings.{Reading, reading_of, found_of, degree_at, degree_in, is_degree, settled_in, Passed, Betters}
+use Rattle.degree_rule.specs.Readings.{Reading, reading_of, degree_at, degree_in, is_degree, Passed}
 use Rattle.degree_rule.specs.Laws.{held_same, reading-low}
 
 -- ── the degree of a reading ──────────────────────────────────────────────────
@@ -74,46 +70,6 @@ module _ {a : Reading} {o : Option ℕ} (qo : a ≡ Ok o) (h : is_some o ≡ fal
   pass-over z =
       let k : tally_of t' ≡ tally_of t = e.is ∙ ap (λ c. cond c (counted (tally_of t)) (tally_of t)) z in
       subst (λ a. Passed a t (Err OverLimit) t') (sym q) (record { same = λ h f m s. ap (λ (y : Tally). refused Refusal.visits y.visits) k ∙ sym (enter-none false z f m); none = λ h. refl; held = e.held })
-
--- ── the better of two ────────────────────────────────────────────────────────
-pub keeps-none : (kept : Option ℕ) (best : List ℕ) (here : Option ℕ) (s : List ℕ) → Good best → is_some here ≡ false → Betters kept best here s kept best
-keeps-none kept best (Some n) s g h = absurd (let z : ◌≡◌ {A = ℕ} 0 1 = cc in omega arith)
-keeps-none kept best None s g h = record { is = sym (none_last (found_of kept best)); good = g; one = inl refl }
-  where
-    none_last : (x : Found) → better x none ≡ x
-    none_last none = refl
-    none_last (some r) = refl
-
-pub takes_first : (kept : Option ℕ) (best : List ℕ) (here : Option ℕ) (s : List ℕ) → Good s → is_some here ≡ true → is_some kept ≡ false → Betters kept best here s here s
-takes_first (Some k) best here s g h q = absurd (let z : ◌≡◌ {A = ℕ} 0 1 = cc in omega arith)
-takes_first None best None s g h q = absurd (let z : ◌≡◌ {A = ℕ} 0 1 = cc in omega arith)
-takes_first None best (Some i) s g h q = record { is = refl; good = g; one = inr refl }
-
-module _ (kept : Option ℕ) (best : List ℕ) (here : Option ℕ) (s : List ℕ) (h : is_some here ≡ true) (q : is_some kept ≡ true) where
-  pub keeps_smaller : Good best → length (members best) ≤ length (members s) → Betters kept best here s kept best
-  keeps_smaller g l = go kept here h q
-    where
-      go : (kept here : Option ℕ) → is_some here ≡ true → is_some kept ≡ true → Betters kept best here s kept best
-      go None here h q = absurd (let z : ◌≡◌ {A = ℕ} 0 1 = cc in omega arith)
-      go (Some k) None h q = absurd (let z : ◌≡◌ {A = ℕ} 0 1 = cc in omega arith)
-      go (Some k) (Some i) h q = record { is = sym (ap (λ b. cond b (found (members s) i) (found (members best) k)) (le-ltb _ _ l)); good = g; one = inl refl }
-
-  pub takes_smaller : Good s → length (members s) < length (members best) → Betters kept best here s here s
-  takes_smaller g l = go kept here h q
-    where
-      go : (kept here : Option ℕ) → is_some here ≡ true → is_some kept ≡ true → Betters kept best here s here s
-      go None here h q = absurd (let z : ◌≡◌ {A = ℕ} 0 1 = cc in omega arith)
-      go (Some k) None h q = absurd (let z : ◌≡◌ {A = ℕ} 0 1 = cc in omega arith)
-      go (Some k) (Some i) h q = record { is = sym (ap (λ b. cond b (found (members s) i) (found (members best) k)) (lt-ltb _ _ l)); good = g; one = inr refl }
-
--- ── settled ──────────────────────────────────────────────────────────────────
-pub settles_none : (kept : Option ℕ) (best before : List ℕ) → is_some kept ≡ false → false ≡ settled_in kept best before
-settles_none None best before h = refl
-settles_none (Some n) best before h = absurd (let z : ◌≡◌ {A = ℕ} 0 1 = cc in omega arith)
-
-pub settles_by : (kept : Option ℕ) → is_some kept ≡ true → (best before : List ℕ) {a b : ℕ} → a ≡ length (members best) → b ≡ length (members before) → eqb a b ≡ settled_in kept best before
-settles_by None h best before x y = absurd (let z : ◌≡◌ {A = ℕ} 0 1 = cc in omega arith)
-settles_by (Some n) h best before x y = rw (x, y)
 
 -- ── as numbers ───────────────────────────────────────────────────────────────
 pub low_reads : (c : ℕ) → c < 18 → Ok (Some c) ≡ reading_of c

@@ -1,7 +1,7 @@
 -- The ways to share a limit between the factors of a product: at the loop's head what is left to try, from the best so far, is all that there is.
 -- Assumes nothing.
 use Prim.Native.Nat.{ℕ, suc, ◌+◌, ◌-◌, ◌<◌, ◌≤◌}
-use mathlib.Core.Path.{◌≡◌, sym, ◌∙◌, ap, ap₂, subst}
+use mathlib.Core.Path.{◌≡◌, refl, sym, ◌∙◌, ap, ap₂, subst}
 use mathlib.Core.Bool.{true, false, cond}
 use mathlib.Core.Option.{none, some}
 use mathlib.Core.List.{List}
@@ -16,13 +16,13 @@ use Rattle.sets.specs.Members.{members, Good}
 use Rattle.std.specs.Prelude.{Option, None, Ok, Err}
 use Rattle.degree_rule.specs.declared.reading.Stop.{Stop}
 use Rattle.degree_rule.specs.Tallies.{Counts, tally_of, Held}
-use Rattle.degree_rule.specs.Readings.{Reading, found_of, said_of, degree_of, degree_in, settled_in, Betters}
+use Rattle.degree_rule.specs.Readings.{Reading, found_in, said_of, degree_in, refused_in, settled_in, Betters}
 use Rattle.degree_rule.specs.Visiting.{degree_op, T, split, paired, Gives, AsksProduct, AsksPair}
-use Rattle.degree_rule.specs.Laws.{held_same, held_then}
+use Rattle.degree_rule.specs.Laws.{held_same, held_then, calm-said}
 use Rattle.degree_rule.proofs.Visits.{holds-next, rule-held}
 
 -- ── one of two readings ──────────────────────────────────────────────────────
-one_of : (P : Option ℕ → Type 0) {r a b : Option ℕ} → (r ≡ a) ⊎ (r ≡ b) → P a → P b → P r
+one_of : (P : Reading → Type 0) {r a b : Reading} → (r ≡ a) ⊎ (r ≡ b) → P a → P b → P r
 one_of P (inl q) x y = subst P (sym q) x
 one_of P (inr q) x y = subst P (sym q) y
 
@@ -35,18 +35,20 @@ module _ {v l x : List ℕ} {c c' : ℕ} {rank : ℕ → ℕ} {f s : List ℕ} {
   abbrev Rest : ℕ → ℕ → ℕ → Found → Tally → Out Found
   Rest n w u best k = splits (some y.limit) (T t s y n (c0_in v i)) (T t s y n (c1_in v i)) (members s) m w u best k
 
-  pub record Going (best : List ℕ) (kept : Option ℕ) (y1 : Counts) (u : ℕ) : Type 0 where
+  pub record Going (best : List ℕ) (kept : Reading) (y1 : Counts) (u : ℕ) : Type 0 where
     pub good : Good best
     pub held : Held y y1
-    pub low : degree_of kept ≤ m
+    pub calm : refused_in kept ≡ false
+    pub low : degree_in kept ≤ m
     pub inside : u ≤ m + 1
-    pub same : (n : ℕ) → levels ≤ n → split t s y m i n ≡ Rest n (m + 1 - u) u (found_of kept best) (tally_of y1)
+    pub same : (n : ℕ) → levels ≤ n → split t s y m i n ≡ Rest n (m + 1 - u) u (found_in kept best) (tally_of y1)
 
-  pub going_first : Going s None y 0
+  pub going_first : Going s (Ok None) y 0
   unfolding split
   going_first = record {
     good = a.asks.holds.good;
     held = held_same y a.asks.holds.whole;
+    calm = refl;
     low = omega arith;
     inside = omega arith;
     same = λ n h. let z : m + 1 ≡ m + 1 - 0 = omega arith in ap (λ w. Rest n w 0 none (tally_of y)) z;
@@ -55,18 +57,18 @@ module _ {v l x : List ℕ} {c c' : ℕ} {rank : ℕ → ℕ} {f s : List ℕ} {
   mul-op : degree_op (kind_in v i) ≡ ◌+◌
   mul-op = ap degree_op a.is
 
-  module _ {best : List ℕ} {kept : Option ℕ} {y1 : Counts} {u : ℕ} (g : Going best kept y1 u) where
-    pub end-gives : m < u → Gives (split t s y m i) levels m y best y1 (Ok kept)
+  module _ {best : List ℕ} {kept : Reading} {y1 : Counts} {u : ℕ} (g : Going best kept y1 u) where
+    pub end-gives : m < u → Gives (split t s y m i) levels m y best y1 kept
     end-gives h = record {
       same = λ n z.
           let w : m + 1 - u ≡ 0 = omega arith in
-          sym (g.same n z ∙ ap (λ w. Rest n w u (found_of kept best) (tally_of y1)) w);
+          calm-said kept best y1 g.calm ∙ sym (g.same n z ∙ ap (λ w. Rest n w u (found_in kept best) (tally_of y1)) w);
       good = g.good;
       held = g.held;
       low = g.low;
     }
 
-    pub end-as : {best1 : List ℕ} {kept1 : Option ℕ} {y2 : Counts} → best1 ≡ best → kept1 ≡ kept → y2 ≡ y1 → m < u → Gives (split t s y m i) levels m y best1 y2 (Ok kept1)
+    pub end-as : {best1 : List ℕ} {kept1 : Reading} {y2 : Counts} → best1 ≡ best → kept1 ≡ kept → y2 ≡ y1 → m < u → Gives (split t s y m i) levels m y best1 y2 kept1
     end-as p q r h = rw (p, q, r) (end-gives h)
 
     module _ (h : u ≤ m) where
@@ -84,8 +86,8 @@ module _ {v l x : List ℕ} {c c' : ℕ} {rank : ℕ → ℕ} {f s : List ℕ} {
       module _ {s2 : List ℕ} {y2 : Counts} {here : Reading} (p : Gives (paired t s y1 u (m - u) i) levels (degree_op (kind_in v i) u (m - u)) y1 s2 y2 here) where
         abbrev After : ℕ → Found → Search Found
         After n z k =
-            cond (settled (better (found_of kept best) z) (members s)) (done (better (found_of kept best) z) k)
-            (Rest n (m - u) (u + 1) (better (found_of kept best) z) k)
+            cond (settled (better (found_in kept best) z) (members s)) (done (better (found_in kept best) z) k)
+            (Rest n (m - u) (u + 1) (better (found_in kept best) z) k)
 
         pair_is : (n : ℕ) → levels ≤ n → pair (some y.limit) ◌+◌ (T t s y n (c0_in v i)) (T t s y n (c1_in v i)) (members s) u (m - u) (tally_of y1) ≡ said_of here s2 y2
         unfolding paired
@@ -98,7 +100,7 @@ module _ {v l x : List ℕ} {c c' : ℕ} {rank : ℕ → ℕ} {f s : List ℕ} {
         turn-said : (n : ℕ) → levels ≤ n → split t s y m i n ≡ next (said_of here s2 y2) (After n)
         turn-said n z =
             let w : m + 1 - u ≡ suc (m - u) = omega arith in
-            g.same n z ∙ ap (λ w. Rest n w u (found_of kept best) (tally_of y1)) w ∙ ap (λ o. next o (After n)) (pair_is n z)
+            g.same n z ∙ ap (λ w. Rest n w u (found_in kept best) (tally_of y1)) w ∙ ap (λ o. next o (After n)) (pair_is n z)
 
         here-low : degree_in here ≤ m
         here-low = let w : degree_in here ≤ u + (m - u) = subst (λ (δ : ℕ → ℕ → ℕ). degree_in here ≤ δ u (m - u)) mul-op p.low in omega (arith, w)
@@ -111,19 +113,23 @@ module _ {v l x : List ℕ} {c c' : ℕ} {rank : ℕ → ℕ} {f s : List ℕ} {
           low = here-low;
         }
 
-        module _ {o : Option ℕ} (q : here ≡ Ok o) {kept1 : Option ℕ} {best1 : List ℕ} (b : Betters kept best o s2 kept1 best1) where
-          low1 : degree_of kept1 ≤ m
-          low1 = one_of (λ r. degree_of r ≤ m) b.one g.low (subst (λ r. degree_in r ≤ m) q here-low)
+        module _ {o : Option ℕ} (q : here ≡ Ok o) {kept1 : Reading} {best1 : List ℕ} (b : Betters kept best (Ok o) s2 kept1 best1) where
+          calm1 : refused_in kept1 ≡ false
+          calm1 = one_of (λ r. refused_in r ≡ false) b.one g.calm refl
 
-          after-said : (n : ℕ) → levels ≤ n → split t s y m i n ≡ cond (settled_in kept1 best1 s) (done (found_of kept1 best1) (tally_of y2)) (Rest n (m - u) (u + 1) (found_of kept1 best1) (tally_of y2))
+          low1 : degree_in kept1 ≤ m
+          low1 = one_of (λ r. degree_in r ≤ m) b.one g.low (subst (λ r. degree_in r ≤ m) q here-low)
+
+          after-said : (n : ℕ) → levels ≤ n → split t s y m i n ≡ cond (settled_in kept1 best1 s) (done (found_in kept1 best1) (tally_of y2)) (Rest n (m - u) (u + 1) (found_in kept1 best1) (tally_of y2))
           after-said n z =
               turn-said n z ∙ ap (λ r. next (said_of r s2 y2) (After n)) q
               ∙ ap (λ w. cond (settled w (members s)) (done w (tally_of y2)) (Rest n (m - u) (u + 1) w (tally_of y2))) (sym b.is)
 
-          pub turn-settled : settled_in kept1 best1 s ≡ true → Gives (split t s y m i) levels m y best1 y2 (Ok kept1)
+          pub turn-settled : settled_in kept1 best1 s ≡ true → Gives (split t s y m i) levels m y best1 y2 kept1
           turn-settled e = record {
             same = λ n z.
-                sym (after-said n z ∙ ap (λ d. cond d (done (found_of kept1 best1) (tally_of y2)) (Rest n (m - u) (u + 1) (found_of kept1 best1) (tally_of y2))) e);
+                calm-said kept1 best1 y2 calm1
+                ∙ sym (after-said n z ∙ ap (λ d. cond d (done (found_in kept1 best1) (tally_of y2)) (Rest n (m - u) (u + 1) (found_in kept1 best1) (tally_of y2))) e);
             good = b.good;
             held = held_then g.held p.held;
             low = low1;
@@ -133,10 +139,11 @@ module _ {v l x : List ℕ} {c c' : ℕ} {rank : ℕ → ℕ} {f s : List ℕ} {
           going_on e = record {
             good = b.good;
             held = held_then g.held p.held;
+            calm = calm1;
             low = low1;
             inside = omega arith;
             same = λ n z.
                 let w : m - u ≡ m + 1 - (u + 1) = omega arith in
-                after-said n z ∙ ap (λ d. cond d (done (found_of kept1 best1) (tally_of y2)) (Rest n (m - u) (u + 1) (found_of kept1 best1) (tally_of y2))) e
-                ∙ ap (λ w. Rest n w (u + 1) (found_of kept1 best1) (tally_of y2)) w;
+                after-said n z ∙ ap (λ d. cond d (done (found_in kept1 best1) (tally_of y2)) (Rest n (m - u) (u + 1) (found_in kept1 best1) (tally_of y2))) e
+                ∙ ap (λ w. Rest n w (u + 1) (found_in kept1 best1) (tally_of y2)) w;
           }

@@ -64,8 +64,8 @@ abbrev pub refused_in : Reading → Bool
 refused_in (Ok o) = false
 refused_in (Err e) = true
 
-abbrev pub settled_in : Option ℕ → List ℕ → List ℕ → Bool
-settled_in kept best before = settled (found_of kept best) (members before)
+abbrev pub settled_in : Reading → List ℕ → List ℕ → Bool
+settled_in kept best before = settled (found_in kept best) (members before)
 
 -- after a first that gave no degree, whatever the second is
 pub record Passed (a : Reading) (t : Counts) (r : Reading) (t' : Counts) : Type 0 where
@@ -73,7 +73,7 @@ pub record Passed (a : Reading) (t : Counts) (r : Reading) (t' : Counts) : Type 
   pub none : is_degree a ≡ false → is_degree r ≡ false
   pub held : Held t t'
 
-pub record Betters (kept : Option ℕ) (best : List ℕ) (here : Option ℕ) (s : List ℕ) (r : Option ℕ) (best' : List ℕ) : Type 0 where
-  pub is : found_of r best' ≡ better (found_of kept best) (found_of here s)
+pub record Betters (kept : Reading) (best : List ℕ) (here : Reading) (s : List ℕ) (r : Reading) (best' : List ℕ) : Type 0 where
+  pub is : found_in r best' ≡ better (found_in kept best) (found_in here s)
   pub good : Good best'
   pub one : (r ≡ kept) ⊎ (r ≡ here)

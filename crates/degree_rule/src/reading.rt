@@ -88,18 +88,18 @@ pub fn passed(first: Reading, tally: &mut Tally) -> Reading
 
 // A smaller set replaces the best so far, so that the first smallest wins.
 pub fn better(
-    kept: Option<u64>,
+    kept: Reading,
     best: &mut [u64; SET_WORDS],
-    here: Option<u64>,
+    here: Reading,
     set: &[u64; SET_WORDS],
-) -> Option<u64>
+) -> Reading
     requires { Good best.old × Good set.now }
     ensures { Betters kept best.old here set.now result best.new }
 {
-    if here.is_none() {
+    if !matches!(here, Ok(Some(_))) {
         return kept;
     }
-    if kept.is_none() || size(set) < size(best) {
+    if !matches!(kept, Ok(Some(_))) || size(set) < size(best) {
         *best = *set;
         return here;
     }
@@ -107,9 +107,9 @@ pub fn better(
 }
 
 // The best so far adds no member.
-pub fn settled(kept: Option<u64>, best: &[u64; SET_WORDS], before: &[u64; SET_WORDS]) -> bool
+pub fn settled(kept: Reading, best: &[u64; SET_WORDS], before: &[u64; SET_WORDS]) -> bool
     requires { Good best.now × Good before.now }
     ensures { result ≡ settled_in kept best.now before.now }
 {
-    kept.is_some() && size(best) == size(before)
+    matches!(kept, Ok(Some(_))) && size(best) == size(before)
 }

@@ -7,7 +7,7 @@ ghost use Rattle.degree_rule.specs.Readings.{reading_of};
 ghost use Rattle.degree_rule.specs.Visiting.{column_in, VisitAsked, VisitGiven, ProductAsked, ProductGiven, SplitsGiven, PairAsked, PairGiven, ReferenceAsked, ReferenceGiven};
 
 use crate::reading::{
-    BAD_KIND, NOTHING, OVER_LIMIT, better, decode, degree, encode, passed, settled,
+    BAD_KIND, NOTHING, OVER_LIMIT, Reading, better, decode, degree, encode, passed, settled,
 };
 use crate::tally::Tally;
 use frames::count::{EXPRESSION_LIMIT, NODE_LIMIT};
@@ -127,21 +127,21 @@ fn splits(
 {
     let before = *set;
     let mut best = *set;
-    let mut kept = None;
+    let mut kept: Reading = Ok(None);
     for l in 0..=m {
         *set = before;
         let both = pair(nodes, expressions, full, set, tally, levels, l, m - l, i);
         let Ok(here) = decode(both) else {
             return both;
         };
-        kept = better(kept, &mut best, here, set);
+        kept = better(kept, &mut best, Ok(here), set);
         if settled(kept, &best, &before) {
             *set = best;
-            return encode(Ok(kept));
+            return encode(kept);
         }
     }
     *set = best;
-    encode(Ok(kept))
+    encode(kept)
 }
 
 // Both children one after the other, at the limits l and r. The degree is the sum of both in a product, else the larger.

@@ -1,6 +1,6 @@
 -- What the choice among candidates asks and gives, and what its answer says.
 -- Assumes nothing: these are definitions.
-use Rattle.std.specs.Prelude.{ℕ, ◌-◌, ◌<◌, ◌≤◌, ◌≡◌, List, length, get_or, Option, Result}
+use Rattle.std.specs.Prelude.{ℕ, ◌-◌, ◌<◌, ◌≤◌, ◌≡◌, List, length, get_or, Result}
 use Rattle.std.proofs.Math.Option.{none, some}
 use Rattle.kinds.specs.Answers.{answer_of}
 use Rattle.kinds.specs.declared.refusal.Refused.{Refused}
@@ -12,11 +12,11 @@ use Rattle.pool.specs.Ranking.{Tabling}
 use Rattle.full_degrees.specs.Table.{World, Fulls}
 use Rattle.sets.specs.Members.{members, Good}
 use Rattle.degree_rule.specs.Tallies.{Counts, Whole}
-use Rattle.degree_rule.specs.Readings.{found_of}
+use Rattle.degree_rule.specs.Readings.{Reading, found_in}
 use Rattle.degree_search.specs.declared.choose.Found.{Found}
 
-pub record Keeps (kept : Option ℕ) (best : List ℕ) (here : Option ℕ) (s : List ℕ) (r : Option ℕ) (best' : List ℕ) : Type 0 where
-  pub is : found_of r best' ≡ keep (found_of kept best) (found_of here s)
+pub record Keeps (kept : Reading) (best : List ℕ) (here : Reading) (s : List ℕ) (r : Reading) (best' : List ℕ) : Type 0 where
+  pub is : found_in r best' ≡ keep (found_in kept best) (found_in here s)
   pub good : Good best'
 
 pub record Fresh (n : ℕ) (y : Counts) : Type 0 where
@@ -45,8 +45,8 @@ pub record Tells (a : Answer Choice) (w w' : List ℕ) (r : Result Found Refused
   pub says : searched_says r w' ≡ a
   pub set : SetAfter a w w'
 
-abbrev pub FinishGiven : Option ℕ → List ℕ → List ℕ → List ℕ → ℕ → Result Found Refused → Type 0
-FinishGiven kept best w w' v r = Good best → Tells (finish (found_of kept best) v) w w' r
+abbrev pub FinishGiven : Reading → List ℕ → List ℕ → List ℕ → ℕ → Result Found Refused → Type 0
+FinishGiven kept best w w' v r = Good best → Tells (finish (found_in kept best) v) w w' r
 
 pub record Asks (t : Tables) (rank : ℕ → ℕ) (f es : List ℕ) (last : ℕ) : Type 0 where
   pub world : World t rank

@@ -3,6 +3,7 @@ ghost use Rattle.degree_search.specs.Choosing.{FinishGiven, ChooseAsked, ChooseG
 
 use crate::candidate::candidate;
 use crate::keep::keep;
+use degree_rule::reading::Reading;
 use degree_rule::tally::Tally;
 use frames::count::{EXPRESSION_LIMIT, NODE_LIMIT};
 use frames::tables::NODE_WORDS;
@@ -21,14 +22,14 @@ const FIRST: u64 = 2;
 
 // Of a degree q + 1: a q of -1 is refused, and so is no set at all.
 fn finish(
-    kept: Option<u64>,
+    kept: Reading,
     best: &[u64; SET_WORDS],
     chosen: &mut [u64; SET_WORDS],
     visits: u64,
 ) -> Result<Found, Refused>
     ensures { FinishGiven kept best.now chosen.old chosen.new visits result }
 {
-    let Some(degree) = kept else {
+    let Ok(Some(degree)) = kept else {
         return Err(Refusal::NoSet.into());
     };
     if degree == 0 {
@@ -62,7 +63,7 @@ pub fn choose(
         degree: FIRST,
     };
     let mut best = [0u64; SET_WORDS];
-    let mut kept = None;
+    let mut kept: Reading = Ok(None);
     for d in FIRST..=last {
         // No degree is cut yet; visits go on.
         tally = Tally {
@@ -80,7 +81,7 @@ pub fn choose(
             &mut tally,
             m,
         )?;
-        kept = keep(kept, &mut best, here, &set);
+        kept = keep(kept, &mut best, Ok(here), &set);
     }
     finish(kept, &best, chosen, tally.visits)
 }

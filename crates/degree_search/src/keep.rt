@@ -4,6 +4,7 @@ ghost use Rattle.search_meaning.specs.Search.{q_of};
 ghost use Rattle.sets.specs.Members.{Good};
 ghost use Rattle.degree_search.specs.Choosing.{Keeps};
 
+use degree_rule::reading::Reading;
 use sets::{SET_WORDS, size};
 
 // What a q of -1 counts as.
@@ -53,18 +54,18 @@ fn replaces(degree: u64, size: u64, kept: u64, kept_size: u64) -> bool
 }
 
 pub fn keep(
-    kept: Option<u64>,
+    kept: Reading,
     best: &mut [u64; SET_WORDS],
-    here: Option<u64>,
+    here: Reading,
     set: &[u64; SET_WORDS],
-) -> Option<u64>
+) -> Reading
     requires { Good best.old × Good set.now }
     ensures { Keeps kept best.old here set.now result best.new }
 {
-    let Some(degree) = here else {
+    let Ok(Some(degree)) = here else {
         return kept;
     };
-    let Some(before) = kept else {
+    let Ok(Some(before)) = kept else {
         *best = *set;
         return here;
     };
