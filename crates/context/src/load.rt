@@ -4,14 +4,17 @@ ghost use Rattle.kinds.specs.Write.{write};
 ghost use Rattle.context.specs.Context.{blocks_in};
 ghost use Rattle.context.specs.Tables.{marks_in, word_of, words_in, LoadAsks, MarksAsk};
 
-use crate::layout::{Entry, MARKS_AT, TABLE_AT, blocks_of, entry_at};
+use crate::layout::{Entry, MARKS_AT, blocks_of, entry_at};
 use starkinfo_codegen::order::JOB_LIMIT;
 
 pub fn load_marks(context: &[u8], marks: &mut [u8; JOB_LIMIT])
     requires { MarksAsk context.now marks.old }
     ensures { marks.new ≡ marks_in context.now }
 {
-    marks.copy_from_slice(&context[MARKS_AT..TABLE_AT]);
+    // No `copy_from_slice`: it would need `memmove` of those who link the library in C.
+    for cell in 0..JOB_LIMIT {
+        marks[cell] = context[MARKS_AT + cell];
+    }
 }
 
 // A block as one word of the lent table: its cell, and its steps above it.

@@ -27,7 +27,10 @@ pub fn store_marks(context: &mut [u8], marks: &[u8; JOB_LIMIT])
     requires { MarksAsk context.old marks.now }
     ensures { context.new ≡ with_marks context.old marks.now }
 {
-    context[MARKS_AT..TABLE_AT].copy_from_slice(marks);
+    // As in `load_marks`.
+    for cell in 0..JOB_LIMIT {
+        context[MARKS_AT + cell] = marks[cell];
+    }
 }
 
 // The entry that a word says.
