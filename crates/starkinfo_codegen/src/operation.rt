@@ -55,7 +55,9 @@ fn find_muladd(nodes: &[u64; NODE_WORDS], a: u16, b: u16) -> Operation
     Operation::new(StepOp::ADD, a, b, NOTHING)
 }
 
-// What a node computes: for an add, with a product fused into it or not. A leaf computes nothing.
+// What a node computes: for an add, with a product fused into it or not. A leaf computes nothing. Inlined, since its answer would go through memory
+// at each level of the recursions that ask, which are thousands of calls deep.
+#[inline(always)]
 pub fn operation_of(nodes: &[u64; NODE_WORDS], fused: bool, i: u16) -> Option<Operation>
     requires { (i < 4096) × ((node_of_words nodes.now i).kind ≡ add → ((node_of_words nodes.now i).c0 < 4096) × ((node_of_words nodes.now i).c1 < 4096)) }
     ensures { computes nodes.now fused i result }

@@ -56,14 +56,14 @@ eval_step-overflow_add-before-2 t c = let k = ends c.args.nodes.now c.requires.0
 pub eval_step-overflow_add-at-4 : goal.eval_step-overflow_add-at-4
 eval_step-overflow_add-at-4 t c = let k = ends c.args.nodes.now c.requires.0.0 c.args.fused c.args.row c.args.at c.args.t c.args.i c.args.list.now c.requires.0.1 c.requires.1 _ (does_step _ _ _ c.operation_of.ensures c.in-Some.is).0 (does_step _ _ _ c.operation_of.ensures c.in-Some.is).1 c.eval_exp-a.ensures c.eval_exp-b.ensures c.eval_exp-c.ensures in omega (arith, k.0, k.1)
 
-pub eval_step-own_step-requires : goal.eval_step-own_step-requires
-eval_step-own_step-requires t c = own-asks c.args.nodes.now c.requires.0.0 c.args.fused c.args.row c.args.at c.args.t c.args.i c.args.list.now c.requires.0.1 c.requires.1 _ (does_step _ _ _ c.operation_of.ensures c.in-Some.is).0 (does_step _ _ _ c.operation_of.ensures c.in-Some.is).1 c.eval_exp-a.ensures c.eval_exp-b.ensures c.eval_exp-c.ensures
+pub eval_step-put_own-requires-clause-own : goal.eval_step-put_own-requires-clause-own
+eval_step-put_own-requires-clause-own t c = own-asks c.args.nodes.now c.requires.0.0 c.args.fused c.args.row c.args.at c.args.t c.args.i c.args.list.now c.requires.0.1 c.requires.1 _ (does_step _ _ _ c.operation_of.ensures c.in-Some.is).0 (does_step _ _ _ c.operation_of.ensures c.in-Some.is).1 c.eval_exp-a.ensures c.eval_exp-b.ensures c.eval_exp-c.ensures
 
-pub eval_step-put_nth_step-requires : goal.eval_step-put_nth_step-requires
-eval_step-put_nth_step-requires t c = put-room c.args.nodes.now c.requires.0.0 c.args.fused c.args.row c.args.at c.args.t c.args.i c.args.list.now c.requires.0.1 c.requires.1 _ (does_step _ _ _ c.operation_of.ensures c.in-Some.is).0 (does_step _ _ _ c.operation_of.ensures c.in-Some.is).1 c.eval_exp-a.ensures c.eval_exp-b.ensures c.eval_exp-c.ensures
+pub eval_step-put_own-requires-clause-room : goal.eval_step-put_own-requires-clause-room
+eval_step-put_own-requires-clause-room t c = put-room c.args.nodes.now c.requires.0.0 c.args.fused c.args.row c.args.at c.args.t c.args.i c.args.list.now c.requires.0.1 c.requires.1 _ (does_step _ _ _ c.operation_of.ensures c.in-Some.is).0 (does_step _ _ _ c.operation_of.ensures c.in-Some.is).1 c.eval_exp-a.ensures c.eval_exp-b.ensures c.eval_exp-c.ensures
 
 pub eval_step-overflow_add-result : goal.eval_step-overflow_add-result
 eval_step-overflow_add-result t c = let k = ends c.args.nodes.now c.requires.0.0 c.args.fused c.args.row c.args.at c.args.t c.args.i c.args.list.now c.requires.0.1 c.requires.1 _ (does_step _ _ _ c.operation_of.ensures c.in-Some.is).0 (does_step _ _ _ c.operation_of.ensures c.in-Some.is).1 c.eval_exp-a.ensures c.eval_exp-b.ensures c.eval_exp-c.ensures in omega (arith, k.0, k.1)
 
 pub eval_step-returns : goal.eval_step-returns
-eval_step-returns t c = λ b a. does-gives c.args.nodes.now b c.args.fused c.args.row c.args.at c.args.t c.args.i c.args.list.now a c.requires.1 _ (does_step _ _ _ c.operation_of.ensures c.in-Some.is).0 (does_step _ _ _ c.operation_of.ensures c.in-Some.is).1 c.eval_exp-a.ensures c.eval_exp-b.ensures c.eval_exp-c.ensures c.own_step.ensures c.put_nth_step.ensures
+eval_step-returns t c = λ b a. does-gives c.args.nodes.now b c.args.fused c.args.row c.args.at c.args.t c.args.i c.args.list.now a c.requires.1 _ (does_step _ _ _ c.operation_of.ensures c.in-Some.is).0 (does_step _ _ _ c.operation_of.ensures c.in-Some.is).1 c.eval_exp-a.ensures c.eval_exp-b.ensures c.eval_exp-c.ensures refl c.put_own.ensures
