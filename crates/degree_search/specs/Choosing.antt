@@ -1,6 +1,6 @@
 -- What the choice among candidates asks and gives, and what its answer says.
 -- Assumes nothing: these are definitions.
-use Rattle.std.specs.Prelude.{ℕ, ◌-◌, ◌<◌, ◌≤◌, ◌≡◌, List, length, get_or, Result}
+use Rattle.std.specs.Prelude.{ℕ, ◌-◌, ◌<◌, ◌≤◌, ◌≡◌, ◌⊎◌, List, length, get_or, Result}
 use Rattle.std.proofs.Math.Option.{none, some}
 use Rattle.kinds.specs.Answers.{answer_of}
 use Rattle.kinds.specs.declared.refusal.Refused.{Refused}
@@ -18,6 +18,7 @@ use Rattle.degree_search.specs.declared.choose.Found.{Found}
 pub record Keeps (kept : Reading) (best : List ℕ) (here : Reading) (s : List ℕ) (r : Reading) (best' : List ℕ) : Type 0 where
   pub is : found_in r best' ≡ keep (found_in kept best) (found_in here s)
   pub good : Good best'
+  pub one : (r ≡ kept) ⊎ (r ≡ here)
 
 pub record Fresh (n : ℕ) (y : Counts) : Type 0 where
   pub whole : Whole y
